@@ -1,0 +1,6 @@
+pub mod Lists
+pub mod Distance
+pub mod Bytes
+pub mod Crc
+pub mod Pattern
+pub mod Refusals

@@ -1,0 +1,29 @@
+// Bytes and bits, the check of 16 bits, the pseudo-random pattern, and the closed list of refusals: what every layer of the link shares.
+ghost use mathlib.Core.Path.{_≡_};
+ghost use Rattle.bits.specs.Refusals.{number};
+
+// Why a call refuses. Each case has a fixed number, for callers that see numbers only.
+#[derive(Clone, Copy, PartialEq, Debug)]
+pub enum Refusal {
+    // not just the bits of one frame, or a byte among them above 1
+    NoFrame,
+    // a file of more than 214,000 bytes
+    TooLong,
+    // lent memory of a length that is not the one that it must have
+    WrongMemory,
+    // a text of no known form
+    UnknownText,
+}
+
+impl Refusal {
+    pub fn code(self) -> u32
+        ensures { λ r. ⌜ r ≡ number self ⌝ }
+    {
+        match self {
+            Refusal::NoFrame => 2,
+            Refusal::TooLong => 3,
+            Refusal::WrongMemory => 4,
+            Refusal::UnknownText => 5,
+        }
+    }
+}
