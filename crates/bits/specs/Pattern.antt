@@ -1,6 +1,7 @@
 -- The pseudo-random pattern that is added to the bits of a frame, from a register of eight bits. Assumes nothing.
 use mathlib.Core.List.{List, [], _∷_}
 use Prim.Native.Nat.{ℕ, zero, suc, _+_, _*_, _/_, _%_}
+use lib.ListN.{length}
 
 -- what is shifted in at the top: the sum of four places, modulo 2
 abbrev pub feedback : ℕ → ℕ
@@ -14,10 +15,16 @@ unfoldable pub pattern : ℕ → ℕ → List ℕ
 pattern zero r = []
 pattern (suc n) r = r % 2 ∷ pattern n (stepped r)
 
--- bits with the pattern added modulo 2, however many there are
-unfoldable pub patternedFrom : ℕ → List ℕ → List ℕ
-patternedFrom r [] = []
-patternedFrom r (x ∷ xs) = (x + r % 2) % 2 ∷ patternedFrom (stepped r) xs
+-- the sum of two lists of bits, place by place, modulo 2
+unfoldable pub plus : List ℕ → List ℕ → List ℕ
+plus [] ps = []
+plus (x ∷ xs) [] = x ∷ xs
+plus (x ∷ xs) (p ∷ ps) = (x + p) % 2 ∷ plus xs ps
 
+-- bits with the pattern added from the register r on, however many there are
+abbrev pub patternedFrom : ℕ → List ℕ → List ℕ
+patternedFrom r xs = plus xs (pattern (length xs) r)
+
+-- the register begins with eight ones
 abbrev pub patterned : List ℕ → List ℕ
 patterned xs = patternedFrom 255 xs

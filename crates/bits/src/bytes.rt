@@ -1,0 +1,90 @@
+// Bytes to bits and back, the highest bit of each byte first.
+ghost use mathlib.Core.Path.{_≡_};
+ghost use Prim.Native.Nat.{_+_, _≤_};
+ghost use mathlib.Core.List.{_++_};
+ghost use lib.ListN.{length, take, drop};
+ghost use Rattle.bits.specs.Bytes.{bitsOf, byteOf};
+ghost use Rattle.bits.specs.Packing.{Unpacked, Packed};
+use super::Refusal;
+
+pub fn bits_of(b: u8) -> [u8; 8]
+    ensures { λ r. ⌜ r ≡ bitsOf b ⌝ }
+{
+    [
+        b / 128 % 2,
+        b / 64 % 2,
+        b / 32 % 2,
+        b / 16 % 2,
+        b / 8 % 2,
+        b / 4 % 2,
+        b / 2 % 2,
+        b % 2,
+    ]
+}
+
+// The byte of eight bits; of a number above 1 only the lowest bit counts.
+pub fn byte_of(bits: &[u8; 8]) -> u8
+    ensures { λ r. ⌜ r ≡ byteOf (now (bits .entry)) ⌝ }
+{
+    let [a, b, c, d, e, f, g, h] = *bits;
+    128 * (a % 2)
+        + 64 * (b % 2)
+        + 32 * (c % 2)
+        + 16 * (d % 2)
+        + 8 * (e % 2)
+        + 4 * (f % 2)
+        + 2 * (g % 2)
+        + h % 2
+}
+
+// Writes the bits of one byte at a place.
+fn put(out: &mut [u8], at: usize, b: u8)
+    requires { ⌜ at + 8 ≤ length (now out) ⌝ }
+    ensures { λ _. ⌜ now (out .exit) ≡ take at (now (out .entry)) ++ (bitsOf b ++ drop (at + 8) (now (out .entry))) ⌝ }
+{
+    out[at..at + 8].copy_from_slice(&bits_of(b));
+}
+
+// The bits of all bytes. The buffer must have eight times as many places as there are bytes; else it is refused, and stays as it was.
+pub fn unpack(bytes: &[u8], out: &mut [u8]) -> Result<(), Refusal>
+    ensures { λ r. ⌜ Unpacked (now (bytes .entry)) (now (out .entry)) (now (out .exit)) r ⌝ }
+{
+    if out.len() % 8 != 0 || out.len() / 8 != bytes.len() {
+        return Err(Refusal::WrongMemory);
+    }
+    for (i, b) in bytes.iter().enumerate() {
+        put(out, 8 * i, *b);
+    }
+    Ok(())
+}
+
+// The byte of the eight bits at a place.
+fn byte_at(bits: &[u8], at: usize) -> u8
+    requires { ⌜ at + 8 ≤ length (now bits) ⌝ }
+    ensures { λ r. ⌜ r ≡ byteOf (take 8 (drop at (now (bits .entry)))) ⌝ }
+{
+    let [a, b, c, d, e, f, g, h] = [
+        bits[at],
+        bits[at + 1],
+        bits[at + 2],
+        bits[at + 3],
+        bits[at + 4],
+        bits[at + 5],
+        bits[at + 6],
+        bits[at + 7],
+    ];
+    byte_of(&[a, b, c, d, e, f, g, h])
+}
+
+// The bytes of all bits. There must be eight times as many bits as the buffer has places; else it is refused, and the buffer stays as it was.
+pub fn pack(bits: &[u8], out: &mut [u8]) -> Result<(), Refusal>
+    ensures { λ r. ⌜ Packed (now (bits .entry)) (now (out .entry)) (now (out .exit)) r ⌝ }
+{
+    if bits.len() % 8 != 0 || bits.len() / 8 != out.len() {
+        return Err(Refusal::WrongMemory);
+    }
+    for (i, x) in out.iter_mut().enumerate() {
+        *x = byte_at(bits, 8 * i);
+    }
+    Ok(())
+}

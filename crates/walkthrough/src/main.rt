@@ -1,0 +1,13 @@
+// A small fixed case taken through the link, layer by layer, and printed step by step for somebody who is new to it.
+mod bytes;
+mod show;
+
+use std::error::AnyError;
+
+fn main(rt: LibcRuntime) -> Result<(), AnyError> {
+    rt.println("Katydidwire, step by step")?;
+    bytes::bits_section(&rt)?;
+    bytes::check_section(&rt)?;
+    bytes::pattern_section(&rt)?;
+    Ok(())
+}
