@@ -1,5 +1,5 @@
 pub mod Tests
-pub mod Metrics
+pub mod Hamming
 pub mod Packing
 pub mod Patterns
 pub mod Steps

@@ -13,7 +13,7 @@ use Rattle.bits.specs.Lists.{areBytes, areBits}
 use Rattle.bits.specs.Bytes.{bitsOf, allBits, byteOf, allBytes}
 use Rattle.bits.specs.Distance.{distance}
 use Rattle.bits.specs.Laws.{RoundTrip}
-use Rattle.bits.proofs.Metrics.{distance-same}
+use Rattle.bits.proofs.Hamming.{distance-zero}
 use Rattle.bits.proofs.Tests.{holds-true, true-holds, everyBelow, everyBelow-at, under-head, under-tail, under-cons, under-nil, under-append, under-take, under-drop}
 
 pub length-allBits : (bs : List ℕ) → length (allBits bs) ≡ 8 * length bs
@@ -81,7 +81,7 @@ comeBack xs = eqb (distance (bitsOf (byteOf xs)) xs) 0
 
 bits-back : (xs : List ℕ) → length xs ≡ 8 → T (areBits xs) → bitsOf (byteOf xs) ≡ xs
 unfolding comeBack everyBits distance
-bits-back xs e a = distance-same (bitsOf (byteOf xs)) xs (eqb→eq _ _ (everyBits-at 8 comeBack tt xs e a))
+bits-back xs e a = distance-zero (bitsOf (byteOf xs)) xs (eqb→eq _ _ (everyBits-at 8 comeBack tt xs e a))
 
 all-back : (n : ℕ) (xs : List ℕ) → T (areBits xs) → length xs ≡ 8 * n → allBits (allBytes n xs) ≡ xs
 unfolding allBits allBytes

@@ -10,7 +10,7 @@ use Rattle.bits.specs.Bytes.{allBytes}
 use Rattle.bits.specs.Crc.{crc, crcFrom, shiftedBy}
 use Rattle.bits.specs.Pattern.{stepped, pattern, plus, patternedFrom, patterned}
 use Rattle.bits.specs.Laws.{PatternLaws, Vectors, BitsRight}
-use Rattle.bits.proofs.Metrics.{metric}
+use Rattle.bits.proofs.Hamming.{metric}
 use Rattle.bits.proofs.Packing.{round-trip}
 use Rattle.bits.proofs.Tests.{under-head, under-tail, under-cons, under-nil}
 

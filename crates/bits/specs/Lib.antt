@@ -5,4 +5,5 @@ pub mod Crc
 pub mod Pattern
 pub mod Packing
 pub mod Laws
+pub mod Heard
 pub mod Refusals

@@ -1,9 +1,10 @@
 // Bytes to bits and back, the highest bit of each byte first.
 ghost use mathlib.Core.Path.{_≡_};
-ghost use Prim.Native.Nat.{_+_, _≤_};
+ghost use Prim.Native.Nat.{_+_, _*_, _≤_};
 ghost use mathlib.Core.List.{_++_};
 ghost use lib.ListN.{length, take, drop};
-ghost use Rattle.bits.specs.Bytes.{bitsOf, byteOf};
+ghost use Rattle.std.specs.Results.{Cases};
+ghost use Rattle.bits.specs.Bytes.{bitsOf, allBits, byteOf, allBytes};
 ghost use Rattle.bits.specs.Packing.{Unpacked, Packed};
 use super::Refusal;
 
@@ -45,16 +46,31 @@ fn put(out: &mut [u8], at: usize, b: u8)
     out[at..at + 8].copy_from_slice(&bits_of(b));
 }
 
+// Refuses unless there are eight bits for each byte.
+fn eight_each(bits: usize, bytes: usize) -> Result<(), Refusal>
+    ensures { λ r. ⌜ Cases r (λ _. bits ≡ 8 * bytes) (λ e. (bits ≡ 8 * bytes → ⊥) × (e ≡ Refusal.WrongMemory)) ⌝ }
+{
+    if bits % 8 != 0 || bits / 8 != bytes {
+        return Err(Refusal::WrongMemory);
+    }
+    Ok(())
+}
+
+fn put_all(bytes: &[u8], out: &mut [u8])
+    requires { ⌜ length (now out) ≡ 8 * length (now bytes) ⌝ }
+    ensures { λ _. ⌜ now (out .exit) ≡ allBits (now (bytes .entry)) ⌝ }
+{
+    for (i, b) in bytes.iter().enumerate() {
+        put(out, 8 * i, *b);
+    }
+}
+
 // The bits of all bytes. The buffer must have eight times as many places as there are bytes; else it is refused, and stays as it was.
 pub fn unpack(bytes: &[u8], out: &mut [u8]) -> Result<(), Refusal>
     ensures { λ r. ⌜ Unpacked (now (bytes .entry)) (now (out .entry)) (now (out .exit)) r ⌝ }
 {
-    if out.len() % 8 != 0 || out.len() / 8 != bytes.len() {
-        return Err(Refusal::WrongMemory);
-    }
-    for (i, b) in bytes.iter().enumerate() {
-        put(out, 8 * i, *b);
-    }
+    eight_each(out.len(), bytes.len())?;
+    put_all(bytes, out);
     Ok(())
 }
 
@@ -63,28 +79,34 @@ fn byte_at(bits: &[u8], at: usize) -> u8
     requires { ⌜ at + 8 ≤ length (now bits) ⌝ }
     ensures { λ r. ⌜ r ≡ byteOf (take 8 (drop at (now (bits .entry)))) ⌝ }
 {
-    let [a, b, c, d, e, f, g, h] = [
-        bits[at],
-        bits[at + 1],
-        bits[at + 2],
-        bits[at + 3],
-        bits[at + 4],
-        bits[at + 5],
-        bits[at + 6],
-        bits[at + 7],
-    ];
-    byte_of(&[a, b, c, d, e, f, g, h])
+    byte_of(
+        &[
+            bits[at],
+            bits[at + 1],
+            bits[at + 2],
+            bits[at + 3],
+            bits[at + 4],
+            bits[at + 5],
+            bits[at + 6],
+            bits[at + 7],
+        ],
+    )
+}
+
+fn take_all(bits: &[u8], out: &mut [u8])
+    requires { ⌜ length (now bits) ≡ 8 * length (now out) ⌝ }
+    ensures { λ _. ⌜ now (out .exit) ≡ allBytes (length (now (out .entry))) (now (bits .entry)) ⌝ }
+{
+    for (i, x) in out.iter_mut().enumerate() {
+        *x = byte_at(bits, 8 * i);
+    }
 }
 
 // The bytes of all bits. There must be eight times as many bits as the buffer has places; else it is refused, and the buffer stays as it was.
 pub fn pack(bits: &[u8], out: &mut [u8]) -> Result<(), Refusal>
     ensures { λ r. ⌜ Packed (now (bits .entry)) (now (out .entry)) (now (out .exit)) r ⌝ }
 {
-    if bits.len() % 8 != 0 || bits.len() / 8 != out.len() {
-        return Err(Refusal::WrongMemory);
-    }
-    for (i, x) in out.iter_mut().enumerate() {
-        *x = byte_at(bits, 8 * i);
-    }
+    eight_each(bits.len(), out.len())?;
+    take_all(bits, out);
     Ok(())
 }

@@ -4,7 +4,7 @@ use Prim.Native.Nat.{ℕ, _+_}
 use native.Mathlib.Omega.{arith}
 use lib.ListN.{length, set}
 use Rattle.bits.proofs.Loops.{packed, packed-more, packed-all}
-use Rattle.bits.proofs.bytes.pack.Needs as need
+use Rattle.bits.proofs.bytes.take_all.Needs as need
 
 pub loop-i-again : need.loop-i-again
 loop-i-again c =
@@ -19,4 +19,4 @@ pub returns : need.returns
 returns c =
     let xs = c .args .bits .now in
     let n = length (c .args .out .now) in
-    (omega arith, sym (packed-all xs (c .loop-i .out) n (c .loop-i .i) (omega arith) (omega arith)) ∙ c .loop-i .inv)
+    sym (packed-all xs (c .loop-i .out) n (c .loop-i .i) (omega arith) (omega arith)) ∙ c .loop-i .inv
