@@ -1,0 +1,9 @@
+pub mod Basics
+pub mod States
+pub mod Survivors
+pub mod Optimality
+pub mod Metric
+pub mod Potential
+pub mod Apart
+pub mod Hard
+pub mod Columns

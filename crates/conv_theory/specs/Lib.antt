@@ -1,0 +1,4 @@
+pub mod Code
+pub mod Search
+pub mod Columns
+pub mod Statements
