@@ -29,7 +29,6 @@ use Rattle.frame_theory.proofs.Words.{codeword-long, codeword-bytes, checked-l
 
 -- the word that is heard has 255 bytes, whatever the bits
 word-long : (r : List ℕ) → length (wordIn r) ≡ 255
-unfolding wordIn
 word-long r = length-allBytes 255 (patterned (heardBits r))
 
 carrier-codeword : OuterCode → (p : List ℕ) → Payload p → T (isCodeword (carrier p))
@@ -49,7 +48,6 @@ sixteen o p r h near =
 
 -- bits that the inner code decodes as a word's give the word
 word-back : (r w : List ℕ) → length w ≡ 255 → T (areBytes w) → heardBits r ≡ scrambled w → wordIn r ≡ w
-unfolding wordIn
 word-back r w e t same =
     ap (λ (bs : List ℕ). allBytes 255 (patterned bs)) same
     ∙ ap (allBytes 255) (pattern-laws .twice (allBits w) (areBits-allBits w))
@@ -57,7 +55,6 @@ word-back r w e t same =
     ∙ round-trip .bytes w t
 
 four : OuterCode → NearestFound → (p r : List ℕ) → Payload p → FrameBits r → distance (frame p) r ≤ 4 → Hears r (Got p)
-unfolding frame
 four o i p r h k near =
     let code = carrier-codeword o p h in
     let long : length (carrier p) ≡ 255 = codeword-long (carrier p) code in
@@ -90,7 +87,6 @@ one o w h g k (far none) (spoiled d dcode dnear dfails) = refl
 one o w h g k (far none) (far also) = refl
 
 all : OuterCode → (p : List ℕ) → Payload p → FrameBits (frame p)
-unfolding frame
 all o p h =
     let bits = scrambled (carrier p) in
     let long = scrambled-long (carrier p) (codeword-long (carrier p) (carrier-codeword o p h)) in

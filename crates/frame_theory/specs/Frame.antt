@@ -36,11 +36,11 @@ abbrev pub scrambled : List ℕ → List ℕ
 scrambled w = patterned (allBits w)
 
 -- a frame as it goes out
-unfoldable pub frame : List ℕ → List ℕ
+abbrev pub frame : List ℕ → List ℕ
 frame p = sent (scrambled (carrier p))
 
 -- the word that the best way through the inner code gives
-unfoldable pub wordIn : List ℕ → List ℕ
+abbrev pub wordIn : List ℕ → List ℕ
 wordIn r = allBytes (wordBytes single) (patterned (heardBits r))
 
 -- no code word differs from the word at 16 places or fewer

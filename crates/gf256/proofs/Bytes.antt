@@ -1,12 +1,12 @@
 -- The laws of the field for bytes, in the terms of the specs. Assumes nothing.
-use mathlib.Core.Path.{_≡_, refl, sym, ap, ap₂, _∙_}
+use mathlib.Core.Path.{_≡_, sym, ap, ap₂, _∙_}
 use mathlib.Core.Logic.{_⊎_, inl, inr, ⊎-elim}
 use Prim.Native.Nat.{ℕ, _%_, _<_}
 use native.Mathlib.Omega.{arith}
 use lib.Bits.{bitXor, xor-lt}
 use Rattle.gf256.specs.Field.{product, power, inverse}
 use Rattle.gf256.specs.Laws.{FieldLaws}
-use Rattle.gf256.proofs.Ring.{_⊕_, _⊙_, pow, xor-is, product-is, ⊕-below, ⊙-below, ⊙-comm, ⊙-assoc, ⊙-distr-l, ⊙-one, ⊙-nonzero, ⊙-inverse, pow-below, power-is, pow2-order, pow2-distinct}
+use Rattle.gf256.proofs.Ring.{_⊕_, _⊙_, xor-is, product-is, ⊙-below, ⊙-comm, ⊙-assoc, ⊙-distr-l, ⊙-one, ⊙-nonzero, ⊙-inverse, pow-below, power-is, pow2-order, pow2-distinct}
 
 pub product-below : (a b : ℕ) → a < 256 → b < 256 → product a b < 256
 product-below a b p q = rw (product-is a b p q) (⊙-below a b)

@@ -5,6 +5,7 @@ use mathlib.Core.Logic.{_⊎_, inl, inr, ⊎-elim}
 use Prim.Native.Nat.{ℕ, zero, suc, _+_, _*_, _%_, _^_, _<_}
 use native.Mathlib.Omega.{arith}
 use lib.Dec.{T, eqb, eqb→eq}
+use lib.ListN.{getD}
 use lib.Bits.{bitXor, xor-comm, xor-assoc, xor-self, xor-zero-r, xor-lt, xor-mod}
 use Rattle.std.proofs.shelf.Tests.{cases-eq}
 use Rattle.gf256.specs.Field.{product, productBy, power, inverse}
@@ -249,7 +250,7 @@ pub pow2-order : power 2 255 ≡ 1
 pow2-order = order
 
 pub pow2-distinct : (i j : ℕ) → i < 255 → j < 255 → power 2 i ≡ power 2 j → i ≡ j
-pow2-distinct i j p q e = sym (log-of-power i p) ∙ ap (λ (x : ℕ). lib.ListN.getD logs x 0) e ∙ log-of-power j q
+pow2-distinct i j p q e = sym (log-of-power i p) ∙ ap (λ (x : ℕ). getD logs x 0) e ∙ log-of-power j q
 
 -- ---- inverses: a = 2^k, so a^255 = (2^255)^k = 1
 order-all : (k : ℕ) → pow (pow 2 k) 255 ≡ 1
@@ -261,8 +262,8 @@ order-all k =
 byte-inverse : (a : ℕ) → a < 256 → (a ≡ 0 → ⊥) → a ⊙ inverse a ≡ 1
 byte-inverse a p n =
     let l : Log a = log-is a p n in
-    let e : pow 2 (lib.ListN.getD logs a 0) ≡ a = sym (power-is 2 (lib.ListN.getD logs a 0) (omega arith)) ∙ l .is in
-    ap (λ (x : ℕ). a ⊙ x) (power-is a 254 p) ∙ sym (pow-suc a 254) ∙ ap (λ (x : ℕ). pow x 255) (sym e) ∙ order-all (lib.ListN.getD logs a 0)
+    let e : pow 2 (getD logs a 0) ≡ a = sym (power-is 2 (getD logs a 0) (omega arith)) ∙ l .is in
+    ap (λ (x : ℕ). a ⊙ x) (power-is a 254 p) ∙ sym (pow-suc a 254) ∙ ap (λ (x : ℕ). pow x 255) (sym e) ∙ order-all (getD logs a 0)
 
 pub ⊙-inverse : (a : ℕ) → (a % 256 ≡ 0 → ⊥) → a ⊙ inverse (a % 256) ≡ 1
 ⊙-inverse a n = sym (⊙-mod-l a (inverse (a % 256))) ∙ byte-inverse (a % 256) (omega arith) n

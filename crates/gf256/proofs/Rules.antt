@@ -1,17 +1,17 @@
 -- What the tables give: products, powers, inverses and logarithms. Assumes nothing.
 use mathlib.Core.Path.{_≡_, refl, sym, ap, ap₂, _∙_}
-use mathlib.Core.List.{List, [], _∷_, _++_}
+use mathlib.Core.List.{List, _++_}
 use mathlib.Core.Logic.{⊎-elim}
 use Prim.Native.Nat.{ℕ, zero, suc, _+_, _-_, _*_, _/_, _%_, _<_, _≤_}
 use native.Mathlib.Omega.{arith}
-use lib.ListN.{length, getD}
+use lib.ListN.{getD}
 use Rattle.std.proofs.shelf.Tests.{cases-lt, cases-eq}
 use Rattle.std.proofs.shelf.Lists.{getD-append-left, getD-append-right}
 use Rattle.bits.specs.Lists.{zeros}
 use Rattle.gf256.specs.Field.{product, power, inverse}
 use Rattle.gf256.specs.Laws.{IsInverse, IsLog}
 use Rattle.gf256.proofs.Table.{cycle, cycle-length, cycle-at, logs, Log, log-is}
-use Rattle.gf256.proofs.Ring.{_⊙_, pow, product-is, ⊙-comm, ⊙-assoc, ⊙-zero-l, ⊙-zero-r, ⊙-one, ⊙-mod-l, ⊙-inverse, pow-below, power-is, power-add, pow-add, pow-mul, pow-one, pow2-below, pow2-order}
+use Rattle.gf256.proofs.Ring.{_⊙_, pow, product-is, ⊙-comm, ⊙-assoc, ⊙-zero-l, ⊙-zero-r, ⊙-one, power-is, power-add, pow-mul, pow-one, pow2-below, pow2-order}
 use Rattle.gf256.proofs.Bytes.{power-below, product-inverse}
 
 unfoldable pub exps : List ℕ

@@ -6,3 +6,4 @@ pub mod Generator
 pub mod Division
 pub mod Encoding
 pub mod Rows
+pub mod Register

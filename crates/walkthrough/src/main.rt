@@ -1,5 +1,8 @@
 // A small fixed case taken through the link, layer by layer, and printed step by step for somebody who is new to it.
 mod bytes;
+mod frames;
+mod inner;
+mod outer;
 mod show;
 
 use std::error::AnyError;
@@ -9,5 +12,8 @@ fn main(rt: LibcRuntime) -> Result<(), AnyError> {
     bytes::bits_section(&rt)?;
     bytes::check_section(&rt)?;
     bytes::pattern_section(&rt)?;
+    outer::section(&rt)?;
+    inner::section(&rt)?;
+    frames::section(&rt)?;
     Ok(())
 }

@@ -1,0 +1,7 @@
+-- One place of 64 is written.
+use mathlib.Core.Path.{refl}
+use Rattle.convolutional.proofs.Forward.{start-is}
+use Rattle.convolutional.proofs.wide.start.Needs as need
+
+pub returns : need.returns
+returns c = record { long = refl; costs = start-is (c .args .far) }

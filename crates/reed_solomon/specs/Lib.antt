@@ -1,0 +1,2 @@
+pub mod Syndromes
+pub mod Repair
