@@ -17,7 +17,7 @@ fn spoil(bits: &mut [u8; 4092], step: usize, most: usize) -> usize {
     let mut changed = 0usize;
     for (i, b) in bits.iter_mut().enumerate() {
         if step > 0 && i % step == 0 && changed < most {
-            *b = (*b + 1) % 2;
+            *b = (*b % 2 + 1) % 2;
             changed = changed.saturating_add(1);
         }
     }

@@ -12,11 +12,11 @@ fn message() -> [u8; 223] {
     message
 }
 
-// Spoils so many bytes, fifteen places apart from one another.
+// Spoils so many bytes, thirteen places apart from one another.
 fn spoil(word: &mut Word, count: usize) {
     for i in 0..17usize {
         if i < count {
-            word.bytes[15 * i] ^= 85;
+            word.bytes[13 * i] ^= 85;
         }
     }
 }
