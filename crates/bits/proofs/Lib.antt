@@ -1,6 +1,9 @@
 pub mod Tests
 pub mod Hamming
 pub mod Packing
+pub mod Words
 pub mod Patterns
 pub mod Steps
+pub mod Rows
+pub mod Checks
 pub mod Loops

@@ -56,11 +56,11 @@ bytes-back (b ∷ bs) t =
     ∙ ap (λ (ys : List ℕ). b ∷ ys) (bytes-back bs (under-tail 256 b bs t))
 
 -- the test p at each list of n bits
-everyBits : ℕ → (List ℕ → Bool) → Bool
+unfoldable pub everyBits : ℕ → (List ℕ → Bool) → Bool
 everyBits zero p = p []
 everyBits (suc n) p = everyBits n (λ xs. p (0 ∷ xs)) && everyBits n (λ xs. p (1 ∷ xs))
 
-everyBits-at : (n : ℕ) (p : List ℕ → Bool) → T (everyBits n p) → (xs : List ℕ) → length xs ≡ n → T (areBits xs) → T (p xs)
+pub everyBits-at : (n : ℕ) (p : List ℕ → Bool) → T (everyBits n p) → (xs : List ℕ) → length xs ≡ n → T (areBits xs) → T (p xs)
 unfolding everyBits
 everyBits-at zero p t [] e a = t
 everyBits-at zero p t (x ∷ xs) e a = absurd (omega arith)

@@ -16,13 +16,21 @@ pub shiftedBy-none : (k c : ℕ) → k ≡ 0 → shiftedBy k c ≡ c
 unfolding shiftedBy
 shiftedBy-none k c e = ap (λ (n : ℕ). shiftedBy n c) e
 
-pub crcFrom-more : (c b : ℕ) (bs : List ℕ) → crcFrom c (b ∷ bs) ≡ crcFrom (stirred c b) bs
+-- one byte more of what is left, two, and none
+pub crcFrom-more : (c i : ℕ) (bs : List ℕ) → i < length bs → crcFrom c (drop i bs) ≡ crcFrom (stirred c (getD bs i 0)) (drop (i + 1) bs)
 unfolding crcFrom
-crcFrom-more c b bs = refl
+crcFrom-more c i bs h = ap (λ (ys : List ℕ). crcFrom c ys) (drop-more bs i 0 h)
 
-pub crcFrom-none : (c : ℕ) → crcFrom c [] ≡ c
+pub crcFrom-two : (c i : ℕ) (bs : List ℕ) → i + 1 < length bs →
+    crcFrom c (drop i bs) ≡ crcFrom (stirred (stirred c (getD bs i 0)) (getD bs (i + 1) 0)) (drop (i + 2) bs)
+crcFrom-two c i bs h =
+    crcFrom-more c i bs (omega arith)
+    ∙ crcFrom-more (stirred c (getD bs i 0)) (i + 1) bs h
+    ∙ ap (λ (n : ℕ). crcFrom (stirred (stirred c (getD bs i 0)) (getD bs (i + 1) 0)) (drop n bs)) (let e : i + 1 + 1 ≡ i + 2 = omega arith in e)
+
+pub crcFrom-none : (c i : ℕ) (bs : List ℕ) → length bs ≤ i → crcFrom c (drop i bs) ≡ c
 unfolding crcFrom
-crcFrom-none c = refl
+crcFrom-none c i bs h = ap (λ (ys : List ℕ). crcFrom c ys) (drop-all i bs h)
 
 -- what the loop has written, and what the definition makes of the rest
 abbrev pub halfway : ℕ → ℕ → List ℕ → List ℕ

@@ -8,34 +8,33 @@ ghost use Rattle.bits.specs.Bytes.{bitsOf, allBits, byteOf, allBytes};
 ghost use Rattle.bits.specs.Packing.{Unpacked, Packed};
 use super::Refusal;
 
+// The eight bits at once: a product puts a copy of the byte at each of eight places, each moved by one more, and of each copy one bit is kept.
+fn spread(b: u8) -> [u8; 8]
+    ensures { λ r. ⌜ r ≡ bitsOf b ⌝ }
+{
+    let copies = (b as u64).wrapping_mul(0x8040_2010_0804_0201);
+    ((copies & 0x8080_8080_8080_8080) / 128).to_le_bytes()
+}
+
 pub fn bits_of(b: u8) -> [u8; 8]
     ensures { λ r. ⌜ r ≡ bitsOf b ⌝ }
 {
-    [
-        b / 128 % 2,
-        b / 64 % 2,
-        b / 32 % 2,
-        b / 16 % 2,
-        b / 8 % 2,
-        b / 4 % 2,
-        b / 2 % 2,
-        b % 2,
-    ]
+    spread(b)
+}
+
+// The byte of eight bits at once: the lowest bits of all stand in one word, and a product brings them together in its highest byte.
+fn gather(bits: [u8; 8]) -> u8
+    ensures { λ r. ⌜ r ≡ byteOf bits ⌝ }
+{
+    let lowest = u64::from_le_bytes(bits) & 0x0101_0101_0101_0101;
+    (lowest.wrapping_mul(0x8040_2010_0804_0201) / 0x0100_0000_0000_0000) as u8
 }
 
 // The byte of eight bits; of a number above 1 only the lowest bit counts.
 pub fn byte_of(bits: &[u8; 8]) -> u8
     ensures { λ r. ⌜ r ≡ byteOf (now (bits .entry)) ⌝ }
 {
-    let [a, b, c, d, e, f, g, h] = *bits;
-    128 * (a % 2)
-        + 64 * (b % 2)
-        + 32 * (c % 2)
-        + 16 * (d % 2)
-        + 8 * (e % 2)
-        + 4 * (f % 2)
-        + 2 * (g % 2)
-        + h % 2
+    gather(*bits)
 }
 
 // Writes the bits of one byte at a place.

@@ -1,6 +1,6 @@
 // The check of 16 bits (CRC-16) over any bytes.
 ghost use mathlib.Core.Path.{_≡_};
-ghost use Rattle.bits.specs.Crc.{shifted, stirred, crc};
+ghost use Rattle.bits.specs.Crc.{shifted, stirred, crcFrom, crc};
 
 // One bit further.
 fn shift(c: u16) -> u16
@@ -24,12 +24,33 @@ fn stir(c: u16, b: u8) -> u16
     x
 }
 
+// Two bytes further: all sixteen bits at once. The quotient by the polynomial is a sum of shifts, and so is its product with it.
+fn stir_two(c: u16, a: u8, b: u8) -> u16
+    ensures { λ r. ⌜ r ≡ stirred (stirred c a) b ⌝ }
+{
+    let x = c ^ (256 * (a as u16) + b as u16);
+    let y = x ^ (x / 16);
+    let q = y ^ (y / 256) ^ (x / 2048);
+    q ^ (q % 2048 * 32) ^ (q % 16 * 4096)
+}
+
+fn crc_from(start: u16, bytes: &[u8]) -> u16
+    ensures { λ r. ⌜ r ≡ crcFrom start (now (bytes .entry)) ⌝ }
+{
+    let mut c = start;
+    let mut i = 0;
+    while i + 1 < bytes.len() {
+        c = stir_two(c, bytes[i], bytes[i + 1]);
+        i += 2;
+    }
+    if i < bytes.len() {
+        return stir(c, bytes[i]);
+    }
+    c
+}
+
 pub fn crc16(bytes: &[u8]) -> u16
     ensures { λ r. ⌜ r ≡ crc (now (bytes .entry)) ⌝ }
 {
-    let mut c = 65535;
-    for b in bytes {
-        c = stir(c, *b);
-    }
-    c
+    crc_from(65535, bytes)
 }

@@ -1,23 +1,307 @@
 // The pseudo-random pattern, added to bits so that long runs of one bit are broken up. Adding it twice gives the bits back.
 ghost use mathlib.Core.Path.{_≡_};
-ghost use Rattle.bits.specs.Pattern.{stepped, patterned};
+ghost use mathlib.Core.List.{_++_};
+ghost use Prim.Native.Nat.{_<_, _≤_};
+ghost use lib.ListN.{length, getD, take, drop};
+ghost use Rattle.bits.specs.Pattern.{pattern, patterned};
 
-// The register after one step.
-fn step(r: u8) -> u8
-    ensures { λ x. ⌜ x ≡ stepped r ⌝ }
+// The first 255 bits of the pattern. After them the register is as it began, so that they come again and again.
+const ROW: [u8; 255] = [
+    1,
+    1,
+    1,
+    1,
+    1,
+    1,
+    1,
+    1,
+    0,
+    1,
+    0,
+    0,
+    1,
+    0,
+    0,
+    0,
+    0,
+    0,
+    0,
+    0,
+    1,
+    1,
+    1,
+    0,
+    1,
+    1,
+    0,
+    0,
+    0,
+    0,
+    0,
+    0,
+    1,
+    0,
+    0,
+    1,
+    1,
+    0,
+    1,
+    0,
+    0,
+    0,
+    0,
+    0,
+    1,
+    1,
+    0,
+    1,
+    0,
+    1,
+    1,
+    1,
+    0,
+    0,
+    0,
+    0,
+    1,
+    0,
+    1,
+    1,
+    1,
+    1,
+    0,
+    0,
+    1,
+    0,
+    0,
+    0,
+    1,
+    1,
+    1,
+    0,
+    0,
+    0,
+    1,
+    0,
+    1,
+    1,
+    0,
+    0,
+    1,
+    0,
+    0,
+    1,
+    0,
+    0,
+    1,
+    1,
+    1,
+    0,
+    1,
+    0,
+    1,
+    1,
+    0,
+    1,
+    1,
+    0,
+    1,
+    0,
+    0,
+    1,
+    1,
+    1,
+    1,
+    0,
+    1,
+    1,
+    0,
+    1,
+    1,
+    1,
+    0,
+    1,
+    0,
+    0,
+    0,
+    1,
+    1,
+    0,
+    1,
+    1,
+    0,
+    0,
+    1,
+    1,
+    1,
+    0,
+    0,
+    1,
+    0,
+    1,
+    1,
+    0,
+    1,
+    0,
+    1,
+    0,
+    0,
+    1,
+    0,
+    1,
+    1,
+    1,
+    0,
+    1,
+    1,
+    1,
+    1,
+    1,
+    0,
+    1,
+    1,
+    1,
+    0,
+    0,
+    1,
+    1,
+    0,
+    0,
+    0,
+    0,
+    1,
+    1,
+    0,
+    0,
+    1,
+    0,
+    1,
+    0,
+    1,
+    0,
+    0,
+    0,
+    1,
+    0,
+    1,
+    0,
+    1,
+    1,
+    1,
+    1,
+    1,
+    1,
+    0,
+    0,
+    1,
+    1,
+    1,
+    1,
+    1,
+    0,
+    0,
+    0,
+    0,
+    0,
+    1,
+    0,
+    1,
+    0,
+    0,
+    0,
+    0,
+    1,
+    0,
+    0,
+    0,
+    0,
+    1,
+    1,
+    1,
+    1,
+    0,
+    0,
+    0,
+    1,
+    1,
+    0,
+    0,
+    0,
+    1,
+    0,
+    0,
+    0,
+    1,
+    0,
+    0,
+    1,
+    0,
+    1,
+    0,
+    0,
+    1,
+    1,
+    0,
+    0,
+    1,
+    1,
+    0,
+    1,
+    1,
+    1,
+    1,
+    0,
+    1,
+    0,
+    1,
+    0,
+    1,
+    0,
+    1,
+    1,
+    0,
+    0,
+    0,
+];
+
+// The bit at a place of the pattern.
+fn pattern_bit(i: usize) -> u8
+    requires { ⌜ i < 255 ⌝ }
+    ensures { λ r. ⌜ r ≡ getD (pattern 255 255) i 0 ⌝ }
 {
-    let wide = u16::from(r);
-    let top = (wide + wide / 8 + wide / 32 + wide / 128) % 2;
-    r / 2 + 128 * top as u8
+    ROW[i]
+}
+
+// Adds the pattern, from its beginning, to no more bits than come before it repeats.
+fn add_row(bits: &mut [u8])
+    requires { ⌜ length (now bits) ≤ 255 ⌝ }
+    ensures { λ _. ⌜ now (bits .exit) ≡ patterned (now (bits .entry)) ⌝ }
+{
+    for (i, x) in bits.iter_mut().enumerate() {
+        *x = (*x % 2 + pattern_bit(i) % 2) % 2;
+    }
+}
+
+// Adds the pattern, from its beginning, to the bits from a place on.
+fn add_from(bits: &mut [u8], start: usize)
+    requires { ⌜ start ≤ length (now bits) ⌝ }
+    ensures { λ _. ⌜ now (bits .exit) ≡ take start (now (bits .entry)) ++ patterned (drop start (now (bits .entry))) ⌝ }
+{
+    let mut at = start;
+    while at < bits.len() {
+        let end = if bits.len() - at < 255 {
+            bits.len()
+        } else {
+            at + 255
+        };
+        add_row(&mut bits[at..end]);
+        at = end;
+    }
 }
 
 // Adds the pattern, from its beginning, to each of the bits modulo 2.
 pub fn add_pattern(bits: &mut [u8])
     ensures { λ _. ⌜ now (bits .exit) ≡ patterned (now (bits .entry)) ⌝ }
 {
-    let mut r: u8 = 255;
-    for x in bits.iter_mut() {
-        *x = (*x % 2 + r % 2) % 2;
-        r = step(r);
-    }
+    add_from(bits, 0);
 }

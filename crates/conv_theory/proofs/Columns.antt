@@ -135,7 +135,7 @@ unfolding after survivors
 after-all cs m e = ap (λ (u : List Cost). ways deep (begin deep (1 + total cs)) u) (take-all (2 * m) cs (omega arith))
 
 -- ---- no cost grows beyond twice the total
-branch-within : (x y : Cost) (s b : ℕ) → branch deep x y s b ≤ max (x .zero) (x .one) + max (y .zero) (y .one)
+pub branch-within : (x y : Cost) (s b : ℕ) → branch deep x y s b ≤ max (x .zero) (x .one) + max (y .zero) (y .one)
 unfolding branch
 branch-within x y s b = let i = one-within x (firstOut deep s b) in let j = one-within y (secondOut deep s b) in omega (arith, i, j)
 

@@ -7,3 +7,4 @@ pub mod Potential
 pub mod Apart
 pub mod Hard
 pub mod Columns
+pub mod Far

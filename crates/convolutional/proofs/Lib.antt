@@ -4,3 +4,4 @@ pub mod Butterfly
 pub mod Forward
 pub mod Reading
 pub mod Decoding
+pub mod Greatest

@@ -8,19 +8,26 @@ ghost use Prim.Native.Nat.{ℕ, _+_, _*_, _<_, _≤_};
 ghost use Rattle.bits.specs.declared.Refusal.the-variants.{NoFrame, WrongMemory};
 ghost use Rattle.bits.specs.Distance.{distance};
 ghost use Rattle.bits.specs.Lists.{areBits};
-ghost use Rattle.convolutional.specs.Lengths.{memoryFits};
+ghost use Rattle.convolutional.specs.Lengths.{hardFits, costsFit};
 ghost use Rattle.conv_theory.specs.Columns.{Decided, costsAfter};
 ghost use Rattle.conv_theory.specs.declared.Cost.{Cost as CostOfBit};
 ghost use Rattle.conv_theory.specs.Code.{sent};
 ghost use Rattle.conv_theory.specs.Search.{best, costOfAll, heardBits, hard as hardOf};
+ghost use Rattle.conv_theory.specs.Statements.{Cheapest, Nearest};
 ghost use Rattle.std.specs.declared.result.Result.the-variants.{Err};
 ghost use Rattle.std.specs.Results.{Cases, isOk};
+ghost use Rattle.std.specs.Vec.{made};
 use crate::lengths::all_bits;
 use crate::lengths::memory_fits;
 use crate::trellis::column;
 use crate::wide::forward;
 use bits::Refusal;
 use conv_theory::Cost;
+
+// The most bits that are searched for: in hard bits, and in costs.
+const MOST_HARD: usize = 16_250;
+
+const MOST: usize = 1_000_000;
 
 // Writes the bit at place i, if there is one.
 fn put(out: &mut [u8], i: usize, bit: u8)
@@ -90,11 +97,12 @@ fn forward_hard(bits: &[u8], decisions: &mut [[u8; 64]]) -> u16
 // `decisions` is memory for n + 6 columns. Refuses, and leaves `out` as it was, where the lengths don't fit one another, or n is above 16,250, or a byte is above 1.
 pub fn decode_hard(bits: &[u8], decisions: &mut [[u8; 64]], out: &mut [u8]) -> Result<u32, Refusal>
     ensures found { λ r. ⌜ Cases r (λ d. (now (out .exit) ≡ heardBits (now (bits .entry))) × (d ≡ distance (sent (heardBits (now (bits .entry)))) (now (bits .entry)))) (λ _. now (out .exit) ≡ now (out .entry)) ⌝ }
-    ensures memory { λ r. ⌜ (memoryFits 16250 (length (now (bits .entry))) (length (now (decisions .entry))) (length (now (out .entry))) ≡ false → r ≡ Err WrongMemory) ⌝ }
-    ensures binary { λ r. ⌜ (T (memoryFits 16250 (length (now (bits .entry))) (length (now (decisions .entry))) (length (now (out .entry)))) → areBits (now (bits .entry)) ≡ false → r ≡ Err NoFrame) ⌝ }
-    ensures taken { λ r. ⌜ (T (memoryFits 16250 (length (now (bits .entry))) (length (now (decisions .entry))) (length (now (out .entry)))) → T (areBits (now (bits .entry))) → isOk r ≡ true) ⌝ }
+    ensures nearest { λ r. ⌜ made r (λ _. Nearest (length (now (out .entry))) (now (bits .entry)) (now (out .exit))) ⌝ }
+    ensures memory { λ r. ⌜ (hardFits (length (now (bits .entry))) (length (now (decisions .entry))) (length (now (out .entry))) ≡ false → r ≡ Err WrongMemory) ⌝ }
+    ensures binary { λ r. ⌜ (T (hardFits (length (now (bits .entry))) (length (now (decisions .entry))) (length (now (out .entry)))) → areBits (now (bits .entry)) ≡ false → r ≡ Err NoFrame) ⌝ }
+    ensures taken { λ r. ⌜ (T (hardFits (length (now (bits .entry))) (length (now (decisions .entry))) (length (now (out .entry)))) → T (areBits (now (bits .entry))) → isOk r ≡ true) ⌝ }
 {
-    if !memory_fits(16250, bits.len(), decisions.len(), out.len()) {
+    if !memory_fits(MOST_HARD, bits.len(), decisions.len(), out.len()) {
         return Err(Refusal::WrongMemory);
     }
     if !all_bits(bits) {
@@ -109,10 +117,11 @@ pub fn decode_hard(bits: &[u8], decisions: &mut [[u8; 64]], out: &mut [u8]) -> R
 // `decisions` is memory for n + 6 columns. Refuses, and leaves `out` as it was, where the lengths don't fit one another, or n is above 1,000,000.
 pub fn decode(costs: &[Cost], decisions: &mut [[u8; 64]], out: &mut [u8]) -> Result<u32, Refusal>
     ensures found { λ r. ⌜ Cases r (λ least. (now (out .exit) ≡ best (now (costs .entry))) × (least ≡ costOfAll (now (costs .entry)) (sent (best (now (costs .entry)))))) (λ _. now (out .exit) ≡ now (out .entry)) ⌝ }
-    ensures memory { λ r. ⌜ (memoryFits 1000000 (length (now (costs .entry))) (length (now (decisions .entry))) (length (now (out .entry))) ≡ false → r ≡ Err WrongMemory) ⌝ }
-    ensures taken { λ r. ⌜ (T (memoryFits 1000000 (length (now (costs .entry))) (length (now (decisions .entry))) (length (now (out .entry)))) → isOk r ≡ true) ⌝ }
+    ensures cheapest { λ r. ⌜ made r (λ _. Cheapest (length (now (out .entry))) (now (costs .entry)) (now (out .exit))) ⌝ }
+    ensures memory { λ r. ⌜ (costsFit (length (now (costs .entry))) (length (now (decisions .entry))) (length (now (out .entry))) ≡ false → r ≡ Err WrongMemory) ⌝ }
+    ensures taken { λ r. ⌜ (T (costsFit (length (now (costs .entry))) (length (now (decisions .entry))) (length (now (out .entry)))) → isOk r ≡ true) ⌝ }
 {
-    if !memory_fits(1000000, costs.len(), decisions.len(), out.len()) {
+    if !memory_fits(MOST, costs.len(), decisions.len(), out.len()) {
         return Err(Refusal::WrongMemory);
     }
     let least = forward(costs, decisions);

@@ -1,4 +1,5 @@
 // Two bits for each bit, from the last seven, and six zeros behind.
+ghost use lib.Bits.{bitAnd};
 ghost use lib.Dec.{T};
 ghost use lib.ListN.{length, getD};
 ghost use mathlib.Core.Bool.{true, false};
@@ -27,6 +28,14 @@ fn parity(w: u8) -> u8
     (w.count_ones() & 1) as u8
 }
 
+// What goes out for a window of seven bits.
+fn outputs(window: u8) -> (u8, u8)
+    ensures first { λ r. ⌜ r .0 ≡ parityOf 7 (bitAnd window 121) ⌝ }
+    ensures second { λ r. ⌜ r .1 ≡ parityOf 7 (bitAnd window 91) ⌝ }
+{
+    (parity(window & FIRST), parity(window & SECOND))
+}
+
 // The bit at place i, with zeros behind the last.
 fn bit_at(bits: &[u8], i: usize) -> u8
     requires { ⌜ T (areBits (now bits)) ⌝ }
@@ -44,8 +53,9 @@ fn spread_into(bits: &[u8], out: &mut [u8])
     let mut state: u8 = 0;
     for i in 0..out.len() / 2 {
         let window = state + 64 * bit_at(bits, i);
-        out[2 * i] = parity(window & FIRST);
-        out[2 * i + 1] = parity(window & SECOND);
+        let (first, second) = outputs(window);
+        out[2 * i] = first;
+        out[2 * i + 1] = second;
         state = window / 2;
     }
 }

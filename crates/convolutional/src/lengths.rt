@@ -17,12 +17,11 @@ pub(crate) fn sent_as(n: usize, coded: usize) -> bool
 pub(crate) fn all_bits(bits: &[u8]) -> bool
     ensures { λ r. ⌜ r ≡ areBits (now (bits .entry)) ⌝ }
 {
+    let mut greatest = 0u8;
     for b in bits {
-        if *b > 1 {
-            return false;
-        }
+        greatest = greatest.max(*b);
     }
-    true
+    greatest < 2
 }
 
 // Whether the lengths fit one another, and there are no more than `most` bits.

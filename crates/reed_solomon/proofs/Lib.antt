@@ -1,3 +1,2 @@
-mod Zero
 mod Vanish
 mod Small

@@ -15,11 +15,7 @@ use Rattle.rs_theory.proofs.Sum.{sum-zeros}
 use Rattle.rs_theory.proofs.Value.{locators, sums-vanish}
 use Rattle.rs_theory.proofs.Codewords.{codeword-from, nearest}
 use Rattle.reed_solomon.specs.Repair.{Repaired, SmallCases}
-
-length-zeros : (n : ℕ) → length (zeros n) ≡ n
-unfolding zeros
-length-zeros zero = refl
-length-zeros (suc n) = ap suc (length-zeros n)
+use Rattle.reed_solomon.proofs.Vanish.{length-zeros}
 
 bytes-zeros : (n : ℕ) → T (areBytes (zeros n))
 unfolding zeros under

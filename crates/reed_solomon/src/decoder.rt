@@ -1,48 +1,50 @@
 // The decoder: syndromes, and the repair by them.
 ghost use mathlib.Core.Path.{_≡_};
 ghost use mathlib.Core.List.{List};
-ghost use Prim.Native.Nat.{ℕ, _<_, _≤_};
+ghost use Prim.Native.Nat.{ℕ, suc, _<_, _≤_};
+ghost use lib.Bits.{bitXor};
 ghost use lib.Dec.{T};
 ghost use lib.ListN.{getD};
 ghost use Rattle.std.specs.Options.{Cases};
 ghost use Rattle.std.specs.Orderings.{When};
 ghost use Rattle.bits.specs.Distance.{distance};
+ghost use Rattle.bits.specs.Lists.{zeros};
+ghost use Rattle.gf256.specs.Field.{product, power};
 ghost use Rattle.rs_theory.specs.Code.{isCodeword};
 ghost use Rattle.rs_decoding.specs.Search.{InKernel};
-ghost use Rattle.reed_solomon.specs.Syndromes.{syndrome, AreSyndromes};
+ghost use Rattle.reed_solomon.specs.Syndromes.{AreSyndromes};
 ghost use Rattle.reed_solomon.specs.Repair.{Repaired, Found};
 use crate::Word;
-use crate::errors::correct;
-use crate::errors::find_roots;
-use crate::errors::values;
-use crate::search::kernel;
+use crate::encoder::residue;
 use gf256::mul;
 use gf256::power_of_two;
+use rs_decoding::errors::correct;
+use rs_decoding::errors::find_roots;
+use rs_decoding::errors::values;
+use rs_decoding::search::kernel;
 
-// The value of the word at 2^j.
-fn value(bytes: &[u8; 255], j: usize) -> u8
-    ensures { λ r. ⌜ r ≡ syndrome j (now (bytes .entry)) ⌝ }
+// One byte further by Horner's rule, at 2^1 .. 2^32 at once.
+fn take_in(s: &mut [u8; 32], b: u8)
+    ensures { λ _. ⌜ ((j : ℕ) → j < 32 → getD (now (s .exit)) j 0 ≡ bitXor (product (getD (now (s .entry)) j 0) (power 2 (suc j))) b) ⌝ }
 {
-    let z = power_of_two(j);
-    let mut value = 0;
-    for b in bytes {
-        value = mul(value, z) ^ *b;
+    for j in 0..32usize {
+        s[j] = mul(s[j], power_of_two(j + 1)) ^ b;
     }
-    value
 }
 
-fn syndromes_of(bytes: &[u8; 255]) -> [u8; 32]
-    ensures { λ r. ⌜ AreSyndromes r (now (bytes .entry)) ⌝ }
+// The values at 2^1 .. 2^32 of what is left of a word by division.
+fn values_at_powers(rest: &[u8; 32]) -> [u8; 32]
+    ensures { λ r. ⌜ AreSyndromes r (now (rest .entry)) ⌝ }
 {
-    let mut out = [0; 32];
-    for j in 0..32usize {
-        out[j] = value(bytes, j + 1);
+    let mut s = [0; 32];
+    for b in rest {
+        take_in(&mut s, *b);
     }
-    out
+    s
 }
 
 fn all_zero(s: &[u8; 32]) -> bool
-    ensures { λ r. ⌜ When r ((j : ℕ) → j < 32 → getD (now (s .entry)) j 0 ≡ 0) ((j : ℕ) × (j < 32) × (getD (now (s .entry)) j 0 ≡ 0 → ⊥)) ⌝ }
+    ensures { λ r. ⌜ When r (now (s .entry) ≡ zeros 32) (now (s .entry) ≡ zeros 32 → ⊥) ⌝ }
 {
     for x in s {
         if *x != 0 {
@@ -55,8 +57,8 @@ fn all_zero(s: &[u8; 32]) -> bool
 fn vanishing(bytes: &[u8; 255]) -> bool
     ensures { λ r. ⌜ r ≡ isCodeword (now (bytes .entry)) ⌝ }
 {
-    let s = syndromes_of(bytes);
-    all_zero(&s)
+    let rest = residue(bytes);
+    all_zero(&rest)
 }
 
 // At how many places two words differ.
@@ -73,12 +75,17 @@ fn differences(a: &[u8; 255], b: &[u8; 255]) -> usize
 }
 
 // The word without the errors at the roots of the polynomial, if they are no more than 16.
-fn corrected_by(polynomial: &[u8; 17], bytes: &[u8; 255], s: &[u8; 32]) -> Option<Word>
-    requires kernel { ⌜ InKernel 16 (now s) (now polynomial) ⌝ }
+fn corrected_by(
+    coefficients: &[u8; 17],
+    degree: usize,
+    bytes: &[u8; 255],
+    s: &[u8; 32],
+) -> Option<Word>
+    requires kernel { ⌜ InKernel 16 degree (now s) (now coefficients) ⌝ }
     requires syndromes { ⌜ AreSyndromes (now s) (now bytes) ⌝ }
     ensures { λ r. ⌜ ((c : List ℕ) → T (isCodeword c) → distance c (now (bytes .entry)) ≤ 16 → Cases r ⊥ (λ v. v .bytes ≡ c)) ⌝ }
 {
-    let values = values(polynomial);
+    let values = values(coefficients, degree);
     let Some(roots) = find_roots(&values) else {
         return None;
     };
@@ -93,7 +100,7 @@ fn candidate(bytes: &[u8; 255], s: &[u8; 32]) -> Option<Word>
     ensures { λ r. ⌜ ((c : List ℕ) → T (isCodeword c) → distance c (now (bytes .entry)) ≤ 16 → Cases r ⊥ (λ v. v .bytes ≡ c)) ⌝ }
 {
     let polynomial = kernel(s, 16);
-    corrected_by(&polynomial, bytes, s)
+    corrected_by(&polynomial.coefficients, polynomial.degree, bytes, s)
 }
 
 // How many places were changed, if that led to a code word at no more than 16 places.
@@ -113,10 +120,11 @@ fn repair_bytes(bytes: &mut [u8; 255]) -> Option<usize>
     ensures right { λ r. ⌜ Cases r (now (bytes .exit) ≡ now (bytes .entry)) (λ k. T (isCodeword (now (bytes .exit))) × (distance (now (bytes .exit)) (now (bytes .entry)) ≡ k) × (k ≤ 16)) ⌝ }
     ensures found { λ r. ⌜ Found (now (bytes .entry)) r (now (bytes .exit)) ⌝ }
 {
-    let s = syndromes_of(bytes);
-    if all_zero(&s) {
+    let rest = residue(bytes);
+    if all_zero(&rest) {
         return Some(0);
     }
+    let s = values_at_powers(&rest);
     let Some(word) = candidate(bytes, &s) else {
         return None;
     };
@@ -132,7 +140,8 @@ impl Word {
     pub fn syndromes(&self) -> [u8; 32]
         ensures { λ r. ⌜ AreSyndromes r (now (self .entry) .bytes) ⌝ }
     {
-        syndromes_of(&self.bytes)
+        let rest = residue(&self.bytes);
+        values_at_powers(&rest)
     }
 
     pub fn is_codeword(&self) -> bool

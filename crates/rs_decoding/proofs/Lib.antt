@@ -7,3 +7,4 @@ pub mod Pivots
 pub mod Steps
 pub mod Reduce
 pub mod ErrorSteps
+mod Zero

@@ -5,7 +5,7 @@ use Prim.Native.Nat.{ℕ, zero, suc, _+_, _<_, _≤_}
 use native.Mathlib.Omega.{arith}
 use native.Mathlib.Nat.{add-assoc}
 use lib.ListN.{length, getD, set, take, drop}
-use Rattle.std.proofs.shelf.Lists.{drop-more, drop-all, take-more-set, take-all, drop-set-lt, append-nil}
+use Rattle.std.proofs.shelf.Lists.{drop-more, drop-all, take-more-set, take-all, drop-set-lt, append-nil, getD-drop}
 use Rattle.gf256.specs.Field.{power}
 use Rattle.gf256.proofs.Ring.{_⊕_, _⊙_, ⊕-assoc, ⊕-zero-r, ⊙-zero-r}
 use Rattle.rs_decoding.specs.Decoding.{dot, combine, evaluate}
@@ -46,6 +46,12 @@ unfolding evaluate
 evaluate-step l x j value h e =
     ap (λ (n : ℕ). getD l j 0 ⊕ (x ⊙ n)) e ∙ sym (ap (λ (a : List ℕ). evaluate a x) (drop-more l j 0 h))
 
-pub evaluate-start : (l : List ℕ) (x j : ℕ) → length l ≤ j → 0 ≡ evaluate (drop j l) x
+evaluate-none : (l : List ℕ) (x : ℕ) → ((j : ℕ) → getD l j 0 ≡ 0) → evaluate l x ≡ 0
 unfolding evaluate
-evaluate-start l x j h = sym (ap (λ (a : List ℕ). evaluate a x) (drop-all j l h))
+evaluate-none [] x f = refl
+evaluate-none (a ∷ l) x f =
+    ap₂ (λ (m n : ℕ). m ⊕ (x ⊙ n)) (f zero) (evaluate-none l x (λ j. f (suc j))) ∙ ap (λ (n : ℕ). 0 ⊕ n) (⊙-zero-r x) ∙ ⊕-zero-r 0
+
+-- what lies above the degree does not count
+pub evaluate-above : (l : List ℕ) (d x : ℕ) → ((j : ℕ) → d < j → getD l j 0 ≡ 0) → evaluate (drop (d + 1) l) x ≡ 0
+evaluate-above l d x f = evaluate-none (drop (d + 1) l) x (λ j. getD-drop (d + 1) l j 0 ∙ f (d + 1 + j) (omega arith))

@@ -26,7 +26,8 @@ pub record Reduced (n r : ℕ) (s heads u : List ℕ) : Type 0 where
   pub clear : (q : ℕ) → q < r → dot u (drop q s) ≡ 0
   pub free : r < n → (getD heads r 0 ≡ 0) × (dot u (drop r s) ≡ 0 → ⊥)
 
--- a vector of at most n + 1 entries, not zero, orthogonal to all n rows
-pub record InKernel (n : ℕ) (s u : List ℕ) : Type 0 where
-  pub top : (k : ℕ) × (k ≤ n) × Topped k u
+-- the coefficients of a polynomial of degree k, at most n, orthogonal to all n rows
+pub record InKernel (n k : ℕ) (s u : List ℕ) : Type 0 where
+  pub within : k ≤ n
+  pub top : Topped k u
   pub orthogonal : (i : ℕ) → i < n → dot u (drop i s) ≡ 0

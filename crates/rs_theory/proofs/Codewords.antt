@@ -1,6 +1,6 @@
 -- Two code words that differ at no more than 32 places are equal. Assumes nothing.
-use mathlib.Core.Path.{_≡_, refl, sym, ap, ap₂, subst, _∙_}
-use mathlib.Core.List.{List, [], _∷_}
+use mathlib.Core.Path.{_≡_, sym, ap, ap₂, subst, _∙_}
+use mathlib.Core.List.{List}
 use mathlib.Core.Logic.{_⊎_, inl, inr, ⊎-elim}
 use mathlib.Core.Bool.{_&&_}
 use Prim.Native.Nat.{ℕ, suc, _+_, _<_, _≤_}
@@ -14,7 +14,7 @@ use Rattle.bits.proofs.Hamming.{distance-sym, distance-triangle}
 use Rattle.gf256.proofs.Basis.{both, both-left, both-right}
 use Rattle.gf256.proofs.Ring.{_⊕_, ⊕-self}
 use Rattle.rs_theory.specs.Code.{vanishes, isCodeword}
-use Rattle.rs_theory.proofs.Sum.{sum, plus, weight, sum-plus, length-plus, bytes-plus}
+use Rattle.rs_theory.proofs.Sum.{sum, plus, sum-plus, length-plus, bytes-plus}
 use Rattle.rs_theory.proofs.Distance.{distance-lemma}
 use Rattle.rs_theory.proofs.Value.{locators, length-locators, locators-are, vanishes-sums, weight-plus, plus-zeros}
 

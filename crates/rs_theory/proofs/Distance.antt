@@ -2,7 +2,7 @@
 use mathlib.Core.Path.{_≡_, refl, sym, ap, ap₂, _∙_}
 use mathlib.Core.List.{List, [], _∷_}
 use mathlib.Core.Logic.{⊎-elim}
-use Prim.Native.Nat.{ℕ, zero, suc, _+_, _-_, _%_, _<_, _≤_}
+use Prim.Native.Nat.{ℕ, zero, suc, _+_, _-_, _<_, _≤_}
 use native.Mathlib.Omega.{arith}
 use lib.Dec.{T, ltb, ltb→lt}
 use lib.ListN.{length}
@@ -11,7 +11,7 @@ use Rattle.bits.specs.Lists.{under, areBytes, zeros}
 use Rattle.bits.specs.Distance.{differ}
 use Rattle.bits.proofs.Hamming.{differ-not}
 use Rattle.gf256.proofs.Basis.{both-left, both-right}
-use Rattle.gf256.proofs.Ring.{_⊕_, _⊙_, pow, pow-suc, pow-below, pow-nonzero, ring, ⊕-comm, ⊕-cancel, ⊕-below, ⊕-zero-l, ⊕-zero-r, ⊙-zero-l, ⊙-nonzero}
+use Rattle.gf256.proofs.Ring.{_⊕_, _⊙_, pow, pow-suc, pow-below, pow-nonzero, ring, ⊕-cancel, ⊕-below, ⊙-zero-l, ⊙-nonzero}
 use Rattle.rs_theory.proofs.Sum.{sum, scale, weight, sum-scale, sum-zeros, length-scale, bytes-scale, weight-scale}
 
 -- x is none of ys

@@ -1,12 +1,12 @@
 -- Long division by the generator: a message followed by its remainder is zero wherever the generator is. Assumes nothing.
 use mathlib.Core.Path.{_≡_, refl, sym, ap, ap₂, _∙_}
 use mathlib.Core.List.{List, [], _∷_, _++_}
-use Prim.Native.Nat.{ℕ, zero, suc, _+_, _<_, _≤_}
+use Prim.Native.Nat.{ℕ, zero, suc, _<_}
 use native.Mathlib.Omega.{arith}
 use lib.Bits.{bitXor, xor-lt}
 use lib.Dec.{T, ltb, lt→ltb}
 use lib.ListN.{length}
-use Rattle.bits.specs.Lists.{under, areBytes, zeros}
+use Rattle.bits.specs.Lists.{under, areBytes}
 use Rattle.gf256.specs.Field.{product, power}
 use Rattle.gf256.proofs.Basis.{both}
 use Rattle.gf256.proofs.Bytes.{product-below}

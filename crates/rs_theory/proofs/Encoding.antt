@@ -10,12 +10,12 @@ use Rattle.bits.specs.Lists.{under, areBytes, zeros}
 use Rattle.bits.specs.Distance.{distance}
 use Rattle.bits.proofs.Hamming.{distance-append, distance-le}
 use Rattle.gf256.specs.Field.{power}
-use Rattle.gf256.proofs.Basis.{both}
+use Rattle.gf256.proofs.Basis.{both, both-left}
 use Rattle.gf256.proofs.Ring.{pow, ⊙-zero-l}
 use Rattle.rs_theory.specs.Code.{remainder, encode, isCodeword}
-use Rattle.rs_theory.specs.Promise.{Encoded, OuterCode, OuterRows}
+use Rattle.rs_theory.specs.Promise.{Encoded, OuterCode}
 use Rattle.rs_theory.proofs.Sum.{sum, sum-zeros}
-use Rattle.rs_theory.proofs.Distance.{head-byte, tail-bytes}
+use Rattle.rs_theory.proofs.Distance.{tail-bytes}
 use Rattle.rs_theory.proofs.Value.{locators, value-is, vanishes-sums, sums-vanish}
 use Rattle.rs_theory.proofs.Codewords.{Codeword, codeword-parts, codeword-from, close-equal, apart, nearest}
 use Rattle.rs_theory.proofs.Generator.{coefficients, generator-is, coefficients-length, coefficients-bytes, with-head-bytes, generator-vanishes}
@@ -25,14 +25,14 @@ pub bytes-append : (a b : List ℕ) → T (areBytes a) → T (areBytes b) → T 
 unfolding under
 bytes-append [] b p q = q
 bytes-append (x ∷ a) b p q =
-    both (ltb x 256) (under 256 (a ++ b)) (Rattle.gf256.proofs.Basis.both-left (ltb x 256) (under 256 a) p) (bytes-append a b (tail-bytes x a p) q)
+    both (ltb x 256) (under 256 (a ++ b)) (both-left (ltb x 256) (under 256 a) p) (bytes-append a b (tail-bytes x a p) q)
 
 pub bytes-take : (n : ℕ) (a : List ℕ) → T (areBytes a) → T (areBytes (take n a))
 unfolding under
 bytes-take zero a p = tt
 bytes-take (suc n) [] p = tt
 bytes-take (suc n) (x ∷ a) p =
-    both (ltb x 256) (under 256 (take n a)) (Rattle.gf256.proofs.Basis.both-left (ltb x 256) (under 256 a) p) (bytes-take n a (tail-bytes x a p))
+    both (ltb x 256) (under 256 (take n a)) (both-left (ltb x 256) (under 256 a) p) (bytes-take n a (tail-bytes x a p))
 
 -- the 32 bytes behind the message
 unfoldable pub parity : List ℕ → List ℕ
@@ -42,7 +42,7 @@ pub encode-is : (m : List ℕ) → encode m ≡ m ++ parity m
 unfolding encode parity
 encode-is m = ap (λ (g : List ℕ). m ++ remainder g m (zeros 32)) generator-is
 
-zeros-bytes : T (areBytes (zeros 32))
+pub zeros-bytes : T (areBytes (zeros 32))
 unfolding zeros under
 zeros-bytes = tt
 
@@ -66,7 +66,7 @@ pub parity-bytes : (m : List ℕ) → T (areBytes m) → T (areBytes (parity m))
 unfolding parity
 parity-bytes m b = remainder-bytes coefficients m (zeros 32) coefficients-bytes b zeros-bytes
 
-joined-sums : (m : List ℕ) → T (areBytes m) → (j : ℕ) → j < 32 → sum (m ++ parity m) (locators (length (m ++ parity m))) (suc j) ≡ 0
+pub joined-sums : (m : List ℕ) → T (areBytes m) → (j : ℕ) → j < 32 → sum (m ++ parity m) (locators (length (m ++ parity m))) (suc j) ≡ 0
 unfolding parity
 joined-sums m b j h =
     sym (value-is (suc j) (m ++ parity m) (bytes-append m (parity m) b (parity-bytes m b))) ∙

@@ -7,3 +7,4 @@ pub mod Division
 pub mod Encoding
 pub mod Rows
 pub mod Register
+pub mod Residue

@@ -4,13 +4,12 @@ use mathlib.Core.List.{List, [], _∷_, _++_}
 use Prim.Native.Nat.{ℕ, zero, suc, _+_, _*_, _/_, _%_, _<_, _≤_}
 use native.Mathlib.Omega.{arith}
 use lib.Bits.{bitXor, bitAnd, and-mask, xor-comm, xor-shifted}
-use lib.Dec.{T}
-use lib.ListN.{length, getD, take, drop, set, length-set}
+use lib.ListN.{length, getD, take, drop, set}
 use Rattle.std.proofs.shelf.Lists.{append-assoc, append-nil, take-more-set, drop-set-lt, drop-more, take-append-drop, take-at, drop-all, drop-at, length-append}
-use Rattle.bits.specs.Lists.{areBytes, zeros}
+use Rattle.bits.specs.Lists.{zeros}
 use Rattle.gf256.specs.Field.{product, productBy}
 use Rattle.gf256.proofs.Bilinear.{left-additive}
-use Rattle.rs_theory.specs.Code.{generator, feed, first, rest, remainder, encode}
+use Rattle.rs_theory.specs.Code.{generator, feed, first, rest, remainder}
 use Rattle.rs_theory.proofs.Generator.{coefficients, generator-is, coefficients-length}
 use Rattle.rs_theory.proofs.Division.{feed-length}
 
@@ -136,11 +135,9 @@ divides-more i ms rs next h d e =
           ap length e ∙ length-append (feed f (generator 32) (drop 1 rs)) (drop 32 rs) ∙ ap₂ _+_ long (ap length (d .padded));
     }
 
-pub divides-ends : (i : ℕ) (ms rs : List ℕ) → length ms ≤ i → Divides i ms rs → ms ++ take 32 rs ≡ encode ms
-unfolding remainder encode
-divides-ends i ms rs h d =
-    ap (λ (a : List ℕ). ms ++ a)
-    (ap (λ (a : List ℕ). remainder (generator 32) a (take 32 rs)) (sym (drop-all i ms h)) ∙ d .same)
+pub divides-ends : (i : ℕ) (ms rs : List ℕ) → length ms ≤ i → Divides i ms rs → take 32 rs ≡ remainder (generator 32) ms (zeros 32)
+unfolding remainder
+divides-ends i ms rs h d = ap (λ (a : List ℕ). remainder (generator 32) a (take 32 rs)) (sym (drop-all i ms h)) ∙ d .same
 
 pub divides-none : (ms rs : List ℕ) → rs ≡ zeros 33 → Divides 0 ms rs
 unfolding zeros

@@ -2,7 +2,7 @@
 use mathlib.Core.Path.{_≡_, refl, sym, ap, ap₂, subst, _∙_}
 use mathlib.Core.List.{List, [], _∷_}
 use mathlib.Core.Logic.{⊎-elim}
-use Prim.Native.Nat.{ℕ, zero, suc, _+_, _-_, _*_, _<_, _≤_}
+use Prim.Native.Nat.{ℕ, zero, suc, _+_, _-_, _<_, _≤_}
 use native.Mathlib.Omega.{arith}
 use lib.Bits.{bitXor}
 use lib.Dec.{T, eqb, eqb→eq, eqb-refl}
@@ -14,7 +14,7 @@ use Rattle.bits.proofs.Hamming.{differ-same, differ-not}
 use Rattle.gf256.specs.Field.{product, power}
 use Rattle.gf256.proofs.Basis.{both, both-left, both-right}
 use Rattle.gf256.proofs.Ring.{_⊕_, _⊙_, pow, ring, xor-is, product-is, power-is, pow-mul, ⊕-below, ⊕-cancel, ⊕-self, ⊕-zero-l, ⊕-zero-r, ⊙-below, ⊙-comm, ⊙-one, ⊙-zero-l, pow2-below, pow2-nonzero, pow2-distinct}
-use Rattle.rs_theory.specs.Code.{valueFrom, vanishes, isCodeword}
+use Rattle.rs_theory.specs.Code.{valueFrom, vanishes}
 use Rattle.rs_theory.proofs.Sum.{sum, weight, plus}
 use Rattle.rs_theory.proofs.Distance.{Unlike, Locators, head-byte, tail-bytes, head-zero, tail-zeros}
 

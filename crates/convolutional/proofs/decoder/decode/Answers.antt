@@ -5,6 +5,9 @@ use Prim.Native.Nat.{ℕ, _+_, _*_}
 use lib.ListN.{length, getD}
 use Rattle.conv_theory.specs.Columns.{Decided, costsAfter}
 use Rattle.conv_theory.proofs.Columns.{end-cost}
+use mathlib.Core.List.{List}
+use Rattle.conv_theory.specs.Statements.{Cheapest}
+use Rattle.conv_theory.proofs.Optimality.{optimal}
 use Rattle.convolutional.specs.Lengths.{memoryFits}
 use Rattle.convolutional.proofs.Decoding.{fits, both}
 use Rattle.convolutional.proofs.decoder.decode.Needs as need
@@ -21,6 +24,10 @@ returns c =
         c .read-back .ensures cs (f .coded-are) (subst (λ (k : ℕ). Decided cs k (c .forward-least .last .decisions)) (f .columns-are) (c .forward-least .ensures .decided)),
         c .forward-least .ensures .cost ∙ ap (λ (k : ℕ). getD (costsAfter cs k) 0 0) (f .columns-are) ∙ end-cost n cs (f .coded-are),
       );
+      cheapest =
+          subst (λ (o : List ℕ). Cheapest n cs o)
+          (sym (c .read-back .ensures cs (f .coded-are) (subst (λ (k : ℕ). Decided cs k (c .forward-least .last .decisions)) (f .columns-are) (c .forward-least .ensures .decided))))
+          (optimal n cs (f .coded-are));
       memory = λ e. both (memoryFits 1000000 (length cs) m n) fit e;
       taken = λ _. refl;
     }

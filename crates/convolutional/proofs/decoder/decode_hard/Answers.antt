@@ -10,6 +10,8 @@ use Rattle.std.proofs.shelf.Lists.{length-map}
 use Rattle.bits.specs.Lists.{areBits}
 use Rattle.conv_theory.specs.Columns.{Decided, costsAfter}
 use Rattle.conv_theory.specs.Search.{hard}
+use Rattle.conv_theory.specs.Statements.{Nearest}
+use Rattle.conv_theory.proofs.Hard.{nearest}
 use Rattle.convolutional.specs.Lengths.{memoryFits}
 use Rattle.convolutional.proofs.Decoding.{fits, holds, both, hard-distance}
 use Rattle.convolutional.proofs.decoder.decode_hard.Needs as need
@@ -27,6 +29,10 @@ returns c =
         c .read-back .ensures (map hard r) (length-map r hard ∙ f .coded-are) (subst (λ (k : ℕ). Decided (map hard r) k (c .forward-hard-distance .last .decisions)) (f .columns-are) (c .forward-hard-distance .ensures .decided)),
         c .from .ensures ∙ c .forward-hard-distance .ensures .cost ∙ ap (λ (k : ℕ). getD (costsAfter (map hard r) k) 0 0) (f .columns-are) ∙ hard-distance n r (f .coded-are) (holds (areBits r) bin),
       );
+      nearest =
+          subst (λ (o : List ℕ). Nearest n r o)
+          (sym (c .read-back .ensures (map hard r) (length-map r hard ∙ f .coded-are) (subst (λ (k : ℕ). Decided (map hard r) k (c .forward-hard-distance .last .decisions)) (f .columns-are) (c .forward-hard-distance .ensures .decided))))
+          (nearest n r (f .coded-are) (holds (areBits r) bin));
       memory = λ e. both (memoryFits 16250 (length r) m n) fit e;
       binary = λ _ e. both (areBits r) bin e;
       taken = λ _ _. refl;

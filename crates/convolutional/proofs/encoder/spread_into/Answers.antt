@@ -18,8 +18,8 @@ loop-i-again c =
     let l = length-append (c .args .bits .now) (zeros 6) in
     let z = length-zeros 6 in (
       omega arith,
-      written-step full (c .loop-i .out) (c .loop-i .i) (c .loop-i .state) (c .bit-at .result) (c .parity .result) (c .parity-in-loop-i .result) _
-          (omega arith) (omega (arith, l, z)) (sym (c .bit-at .ensures .is)) (c .parity .ensures) (c .parity-in-loop-i .ensures) (omega arith) (c .loop-i .inv .1),
+      written-step full (c .loop-i .out) (c .loop-i .i) (c .loop-i .state) (c .bit-at .result) (c .outputs-first .result .0) (c .outputs-first .result .1) _
+          (omega arith) (omega (arith, l, z)) (sym (c .bit-at .ensures .is)) (c .outputs-first .ensures .first) (c .outputs-first .ensures .second) (omega arith) (c .loop-i .inv .1),
     )
 
 pub returns : need.returns

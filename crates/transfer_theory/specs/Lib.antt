@@ -1,0 +1,11 @@
+pub mod Payload
+pub mod Parts
+pub mod Sender
+pub mod Receiver
+pub mod World
+pub mod Invariant
+pub mod Promise
+pub mod Cases
+pub mod Onward
+pub mod Rounds
+pub mod Orders
