@@ -1,2 +1,2 @@
 mod Vanish
-mod Small
+pub mod Small

@@ -8,3 +8,4 @@ pub mod Steps
 pub mod Reduce
 pub mod ErrorSteps
 mod Zero
+pub mod Known

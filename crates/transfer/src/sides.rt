@@ -8,7 +8,7 @@ ghost use lib.ListN.{length};
 ghost use Rattle.transfer.specs.Lines.{heardOf};
 ghost use Rattle.bits.specs.Heard.{Heard, Lost, Got};
 ghost use Rattle.transfer_theory.specs.Sender.{Sender, newSender, says, afterSaying, told};
-ghost use Rattle.transfer_theory.specs.Receiver.{Receiver, newReceiver, hears, answers, handedCount, handedInto};
+ghost use Rattle.transfer_theory.specs.Receiver.{Receiver, newReceiver, hears, answers, complete, handedCount, handedInto};
 
 pub trait Ship {
     ghost sender: { Self → Sender };
@@ -58,6 +58,11 @@ pub trait Station {
         ensures there { λ r. ⌜ r ≡ ltb 0 (receiver (now (self .entry)) .size) ⌝ }
         ensures answer { λ r. ⌜ (T r → now (out .exit) ≡ answers (receiver (now (self .entry)))) ⌝ }
         ensures kept { λ r. ⌜ (r ≡ false → now (out .exit) ≡ now (out .entry)) ⌝ };
+
+    // Whether it has a length and all parts.
+    fn complete(&self) -> bool
+        requires { ⌜ sound (now self) ⌝ }
+        ensures { λ r. ⌜ r ≡ complete (receiver (now (self .entry))) ⌝ };
 
     // Writes the file if it is complete: the count of bytes written; what lies behind them stays.
     fn hand_over(&self, out: &mut [u8; 214000]) -> u32

@@ -151,6 +151,14 @@ pub impl<'a> Station for Ground<'a> as GroundStation {
         true
     }
 
+    fn complete(&self) -> bool {
+        if self.size == 0 {
+            return false;
+        }
+        let wanted = self.wanted();
+        first_gap(self.memory, wanted) == wanted
+    }
+
     fn hand_over(&self, out: &mut [u8; 214000]) -> u32 {
         match self.leave() {
             Some(leave) => self.spend(leave, out),

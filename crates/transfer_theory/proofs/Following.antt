@@ -18,7 +18,7 @@ use Rattle.transfer_theory.specs.Receiver.{answers}
 use Rattle.transfer_theory.specs.World.{World, step, Says, Asks, Down, Up, sameBytes, isIn, foreign, fair, Run, RunBits}
 use Rattle.transfer_theory.specs.World as world
 use Rattle.transfer_theory.specs.Invariant.{Good}
-use Rattle.transfer_theory.specs.Onward.{IsPayload, Faithful, Carries, Arrived, Plays, arrived, forth, back, Then, here, spoke, replied, below, above, SaysPayloads, StaysFair, WayOn, Onward, Comes, Harmless, Framed, OnwardBits}
+use Rattle.transfer_theory.specs.Onward.{IsPayload, Faithful, Carries, Arrived, Plays, arrived, forth, back, Then, here, spoke, replied, below, above, SaysPayloads, StaysFair, WayOn, Onward, Whole, WholeLine, Comes, Harmless, Framed, OnwardBits}
 use Rattle.transfer_theory.proofs.Slots.{is-true, holds}
 use Rattle.transfer_theory.proofs.Answering.{says-sent, answers-back}
 use Rattle.transfer_theory.proofs.Safety.{run-good}
@@ -102,6 +102,15 @@ onward C =
       wins = strategy-wins C;
       fair = λ x n f m i w v r t. then-run C x n f m i r t;
       exists = way-on C;
+    }
+
+pub whole-line : WholeLine
+whole-line =
+    record {
+      faithful = λ p h q e. e;
+      carries = λ p q. (Got p, refl);
+      wins = strategy-wins Whole (λ p h q e. e);
+      exists = way-on Whole (λ p h q e. e) (λ p q. (Got p, refl));
     }
 
 -- ---- with bits beneath

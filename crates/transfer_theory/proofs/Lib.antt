@@ -17,3 +17,6 @@ pub mod Phases
 pub mod InStep
 pub mod Effects
 pub mod Ordering
+pub mod Fresh
+pub mod Evenings
+pub mod Pairs

@@ -25,7 +25,7 @@ gapsOf w k = gapsIn (w .receiver) k
 
 -- k more rounds suffice: the sender is told; it is at a gap; there is a length; or there is none yet
 pub data Phase (f : List ℕ) (k : ℕ) (w : World) : Type 0 where
-  told : T (w .sender .done) → Phase f k w
+  settled : T (w .sender .done) → Phase f k w
   synced :
       w .receiver .size ≡ length f + 1 → w .sender .place < parts f → emptyOf (slotAt (w .receiver) (w .sender .place)) ≡ true → gapsOf w (parts f) ≤ k →
       Phase f k w
@@ -63,7 +63,7 @@ part-place n f w v p =
 -- ---- after an answer the sender is told, or at a gap
 answered :
     (n : ℕ) (f : List ℕ) (k : ℕ) (x v : World) → x .receiver .size ≡ length f + 1 → gapsOf x (parts f) ≤ k → Backward n f x v → Phase f k v
-answered n f k x v s h (inl d) = told (d .done)
+answered n f k x v s h (inl d) = settled (d .done)
 answered n f k x v s h (inr q) =
     synced (ap (λ (r : Receiver). r .size) (q .receiver) ∙ s) (subst (λ (j : ℕ). j < parts f) (sym (q .place)) (q .asking .within))
     (ap (λ (r : Receiver). emptyOf (slotAt r (v .sender .place))) (q .receiver) ∙ ap (λ (j : ℕ). emptyOf (slotAt (x .receiver) j)) (q .place) ∙ q .asking .gap)
@@ -80,7 +80,7 @@ turn-sized n f k w v t s h = go (t .back)
 
 -- ---- a round brings the next phase
 pub phase-turn : (n : ℕ) (f : List ℕ) (k : ℕ) (w v : World) → Good n f w → Phase f (suc k) w → Turn n f w v → Phase f k v
-phase-turn n f k w v g (told d) t = told (turn-done n f w v t d)
+phase-turn n f k w v g (settled d) t = settled (turn-done n f w v t d)
 phase-turn n f k w v g (synced s l e h) t = go (t .forth)
   where
     go : Forth n f w (t .middle) → Phase f k v
@@ -120,7 +120,7 @@ phase-any n f k w g h = go (g .received .size)
     go (inr e) = let a = gaps-most (λ (j : ℕ). emptyOf (slotAt (w .receiver) j)) (parts f) in sized e (omega arith)
 
 pub phase-over : (f : List ℕ) (w : World) → Phase f 0 w → T (w .sender .done)
-phase-over f w (told d) = d
+phase-over f w (settled d) = d
 phase-over f w (synced s l e h) =
     let a = gaps-some (λ (j : ℕ). emptyOf (slotAt (w .receiver) j)) (parts f) (w .sender .place) l e in
     let z : ⊥ = omega arith in

@@ -9,3 +9,4 @@ pub mod Cases
 pub mod Onward
 pub mod Rounds
 pub mod Orders
+pub mod Evening

@@ -78,6 +78,13 @@ pub record Onward (C : List ℕ → Heard → Type 0) : Type 0 where
   pub fair : Faithful C → StaysFair C
   pub exists : Faithful C → Carries C → WayOn C
 
+-- such a line: the one that brings each payload as it is
+pub record WholeLine : Type 0 where
+  pub faithful : Faithful Whole
+  pub carries : Carries Whole
+  pub wins : StrategyWins Whole
+  pub exists : WayOn Whole
+
 -- ---- with bits beneath: frame makes the bits of a payload, Hears says what is heard in bits; at most e of the bits are spoiled
 abbrev pub Comes : (List ℕ → Heard → Type 0) → (List ℕ → List ℕ) → ℕ → ℕ → List ℕ → Heard → Type 0
 Comes Hears frame bits e p h = (r : List ℕ) × (length r ≡ bits) × T (areBits r) × (distance (frame p) r ≤ e) × Hears r h

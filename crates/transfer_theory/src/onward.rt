@@ -2,7 +2,8 @@
 ghost use mathlib.Core.List.{List};
 ghost use Prim.Native.Nat.{ℕ};
 ghost use Rattle.bits.specs.Heard.{Heard};
-ghost use Rattle.transfer_theory.specs.Onward.{SaysPayloads, Onward, OnwardBits};
+ghost use Rattle.transfer_theory.specs.Evening.{BadEvening};
+ghost use Rattle.transfer_theory.specs.Onward.{SaysPayloads, Onward, WholeLine, OnwardBits};
 ghost use Rattle.transfer_theory.specs.Orders.{HearingLaws};
 ghost use Rattle.transfer_theory.specs.Rounds.{Lockstep};
 
@@ -32,6 +33,13 @@ pub fn onward_stands<L: AnyLine>() -> u8
     0
 }
 
+// The plainest line there is, which brings each payload as it is, is one of those.
+pub fn whole_line_stands() -> u8
+    ensures { λ _. ⌜ WholeLine ⌝ }
+{
+    0
+}
+
 // The same over frames of so many bits of which a few may be spoiled.
 pub fn onward_bits_stands<F: AnyFrames>() -> u8
     ensures { λ _. ⌜ ((bits e : ℕ) → OnwardBits (F·AnyFrames .hears) (F·AnyFrames .frame) bits e) ⌝ }
@@ -49,6 +57,13 @@ pub fn lockstep_stands<L: AnyLine>() -> u8
 // Hearing twice is hearing once, the order is nothing, and complete stays complete.
 pub fn hearing_laws_stand() -> u8
     ensures { λ _. ⌜ HearingLaws ⌝ }
+{
+    0
+}
+
+// A bad evening: two good rounds in a row bring a missing part or end it, and parts + 1 such pairs bring the file, whatever lies between them that is not false.
+pub fn evening_stands<L: AnyLine>() -> u8
+    ensures { λ _. ⌜ BadEvening (L·AnyLine .comes) ⌝ }
 {
     0
 }
