@@ -1,4 +1,4 @@
-"""The repository's own checks: formatting, listed crates, no reference to what its readers do not have, the toolchain's line, links.
+"""The repository's own checks: formatting, listed crates, no reference to what its readers do not have, the toolchain's line, links, vectors.
 
 Run from anywhere; ./test calls it. Exits with 1 and a line for each fault if there is one.
 """
@@ -114,9 +114,16 @@ def links():
                 yield f"{name}: the link to {target} leads nowhere"
 
 
+def vectors():
+    """What the program `vectors` is fed in the gate is the tables of bench/, joined."""
+    tables = "".join(text_of(f"bench/vectors/{name}.txt") for name in ("outer", "inner", "frames"))
+    if tables != text_of("crates/vectors/stdin"):
+        yield "crates/vectors/stdin is not bench/vectors/outer.txt, inner.txt and frames.txt joined"
+
+
 def main():
     faults = []
-    for check in (formatting, listed_crates, stands_alone, toolchain_line, links):
+    for check in (formatting, listed_crates, stands_alone, toolchain_line, links, vectors):
         found = list(check())
         print(f"check: {check.__name__}: {'ok' if not found else 'FAILED'}")
         faults += found

@@ -8,10 +8,10 @@ use lib.ListN.{length}
 use Rattle.bits.specs.Lists.{areBits, zeros}
 use Rattle.bits.specs.Distance.{distance}
 use Rattle.bits.specs.Heard.{Lost, Got}
-use Rattle.rs_theory.specs.Code.{isCodeword, encode}
+use Rattle.rs_theory.specs.Code.{isCodeword, encode, Far}
 use Rattle.conv_theory.specs.Code.{sent}
 use Rattle.conv_theory.specs.Search.{heardBits}
-use Rattle.frame_theory.specs.Frame.{frame, Hears, Far}
+use Rattle.frame_theory.specs.Frame.{frame, Hears}
 use Rattle.frame_theory.specs.Promise.{FrameBits}
 
 -- ---- 4: a buffer of another length than it must have, and then nothing is changed; what the other answers mean is said of buffers that have it

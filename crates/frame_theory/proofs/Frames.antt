@@ -23,7 +23,7 @@ use Rattle.conv_theory.specs.Code.{sent}
 use Rattle.conv_theory.specs.Search.{heardBits}
 use Rattle.conv_theory.specs.Statements.{NearestFound}
 use Rattle.conv_theory.proofs.Hard.{length-sent, spread-bits}
-use Rattle.frame_theory.specs.Frame.{Payload, checked, passes, carrier, scrambled, frame, wordIn, Far, Taken, Hears, right, spoiled, far}
+use Rattle.frame_theory.specs.Frame.{Payload, checked, passes, carrier, scrambled, frame, wordIn, Taken, Hears, right, spoiled, far}
 use Rattle.frame_theory.specs.Promise.{FrameBits, FrameRight}
 use Rattle.frame_theory.proofs.Words.{codeword-long, codeword-bytes, checked-long, checked-bytes, begins-payload, begins-passes}
 

@@ -11,7 +11,7 @@ use Rattle.bits.specs.Bytes.{allBits, allBytes}
 use Rattle.bits.specs.Crc.{crc}
 use Rattle.bits.specs.Pattern.{patterned}
 use Rattle.bits.specs.Heard.{Heard, Lost, Got}
-use Rattle.rs_theory.specs.Code.{isCodeword, encode}
+use Rattle.rs_theory.specs.Code.{isCodeword, encode, Far}
 use Rattle.conv_theory.specs.Code.{sent}
 use Rattle.conv_theory.specs.Search.{heardBits}
 use Rattle.frame_theory.specs.Format.{single, payloadBytes, wordBytes}
@@ -42,10 +42,6 @@ frame p = sent (scrambled (carrier p))
 -- the word that the best way through the inner code gives
 abbrev pub wordIn : List ℕ → List ℕ
 wordIn r = allBytes (wordBytes single) (patterned (heardBits r))
-
--- no code word differs from the word at 16 places or fewer
-abbrev pub Far : List ℕ → Type 0
-Far w = (c : List ℕ) → T (isCodeword c) → 16 < distance c w
 
 -- what is taken from the word w: the payload of a code word within 16 places whose check is right; nothing, if its check is wrong or there is no such word
 pub data Taken (w : List ℕ) : Heard → Type 0 where

@@ -8,11 +8,7 @@ use Rattle.std.specs.declared.option.Option.{Option}
 use Rattle.std.specs.declared.option.Option.the-variants.{Some, None}
 use Rattle.bits.specs.Lists.{areBytes, zeros}
 use Rattle.bits.specs.Distance.{distance}
-use Rattle.rs_theory.specs.Code.{isCodeword}
-
--- every code word differs from w at more than 16 places
-abbrev pub Far : List ℕ → Type 0
-Far w = (c : List ℕ) → T (isCodeword c) → 16 < distance c w
+use Rattle.rs_theory.specs.Code.{isCodeword, Far}
 
 -- the word w became v: a code word within 16 places, k of them changed; or nothing was changed, and there is no such code word
 abbrev pub Repaired : List ℕ → Option ℕ → List ℕ → Type 0
