@@ -15,7 +15,8 @@ use Rattle.conv_theory.specs.declared.Cost.{Cost}
 use Rattle.conv_theory.specs.Code.{deep, firstOut, secondOut, sent}
 use Rattle.conv_theory.specs.Search.{Way, start, costOfAll, begin, branch, along, into, column, ways, total, survivors, best, hard}
 use Rattle.conv_theory.specs.Columns.{lower, higher, cheaper, choice, nextCosts, choices, after, costIn, costsAfter, nothing, choicesAt, Decided}
-use Rattle.conv_theory.proofs.Basics.{first-bit, rest-bits, length-zeros}
+use Rattle.bits.proofs.Tests.{length-zeros}
+use Rattle.conv_theory.proofs.Basics.{first-bit, rest-bits}
 use Rattle.conv_theory.proofs.Survivors.{at, column-at, chosen}
 use Rattle.conv_theory.proofs.Optimality.{one-within, Found, found}
 

@@ -16,9 +16,10 @@ use Rattle.bits.specs.Distance.{differ, distance}
 use Rattle.conv_theory.specs.Code.{deep, parity, firstOut, secondOut, next, spread, sent}
 use Rattle.conv_theory.specs.Search.{costOf, costOfAll, best, hard, heardBits}
 use Rattle.conv_theory.specs.Statements.{Bits, Cheapest, Nearest, NearestFound}
-use Rattle.conv_theory.proofs.Basics.{first-bit, rest-bits, more-bits, no-bits, length-zeros}
+use Rattle.bits.proofs.Tests.{length-zeros}
+use Rattle.conv_theory.proofs.Basics.{first-bit, rest-bits, more-bits, no-bits}
 use Rattle.conv_theory.proofs.States.{length-spread}
-use Rattle.conv_theory.proofs.Metric.{distance-sym, distance-triangle}
+use Rattle.bits.proofs.Hamming.{distance-sym, distance-triangle}
 use Rattle.conv_theory.proofs.Optimality.{optimal}
 use Rattle.conv_theory.proofs.Apart.{inputs-apart}
 
@@ -82,8 +83,8 @@ nearest n r e t =
         | inl g ↦ g
         | inr g ↦
             let x = inputs-apart n f bs (o .right) (record { long = l; bits = u }) g in
-            let y = distance-triangle (sent f) r (sent bs) (length-sent n f lf ∙ sym e) (e ∙ sym (length-sent n bs l)) in
-            let w = distance-sym (sent bs) r (length-sent n bs l ∙ sym e) in
+            let y = distance-triangle (sent f) r (sent bs) in
+            let w = distance-sym (sent bs) r in
             let v = least bs l u in
             let z : ⊥ = omega (arith, x, y, w, v, q) in absurd z
       ];

@@ -2,7 +2,6 @@ pub mod Basics
 pub mod States
 pub mod Survivors
 pub mod Optimality
-pub mod Metric
 pub mod Potential
 pub mod Apart
 pub mod Hard

@@ -13,7 +13,8 @@ use Rattle.conv_theory.specs.declared.Cost.{Cost}
 use Rattle.conv_theory.specs.Code.{deep, next, run, spread, sent}
 use Rattle.conv_theory.specs.Search.{Way, start, begin, ways, survivors, costOf, costOfAll, total, bestBy, best}
 use Rattle.conv_theory.specs.Statements.{Bits, Cheapest, Optimal}
-use Rattle.conv_theory.proofs.Basics.{bits-append, bits-front, bits-zeros, length-zeros}
+use Rattle.bits.proofs.Tests.{length-zeros}
+use Rattle.conv_theory.proofs.Basics.{bits-append, bits-front, bits-zeros}
 use Rattle.conv_theory.proofs.States.{run-append, run-below, zeros-lead-back, Ended, ends}
 use Rattle.conv_theory.proofs.Survivors.{at, none-cheaper, Goes, goes}
 

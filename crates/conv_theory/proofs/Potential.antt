@@ -10,7 +10,8 @@ use lib.Dec.{T, leb, eqb, leb→le, eqb→eq}
 use lib.ListN.{getD}
 use Rattle.bits.specs.Distance.{differ}
 use Rattle.conv_theory.specs.Code.{deep, parity, firstOut, secondOut, next}
-use Rattle.conv_theory.proofs.Basics.{allBelow, at-each, and-first, and-second, zero-or-one}
+use Rattle.bits.proofs.Tests.{everyBelow, everyBelow-at}
+use Rattle.conv_theory.proofs.Basics.{and-first, and-second, zero-or-one}
 
 -- by the sum modulo 2 of the two states: the fewest ones that go out from it on the way to state 0
 unfoldable pub phi : List ℕ
@@ -32,7 +33,7 @@ pairRight : ℕ → ℕ → Bool
 pairRight s t = (stepRight s t 0 0 && stepRight s t 0 1) && (stepRight s t 1 0 && stepRight s t 1 1)
 
 rowRight : ℕ → Bool
-rowRight s = allBelow 64 (pairRight s)
+rowRight s = everyBelow 64 (pairRight s)
 
 -- two ways that part
 partingRight : ℕ → Bool
@@ -41,23 +42,23 @@ partingRight s = leb 10 (parts s s 0 1 + pot (next deep s 0) (next deep s 1)) &&
 meetRight : ℕ → Bool
 meetRight s = eqb (pot s s) 0
 
-steps-right : T (allBelow 64 rowRight)
-unfolding allBelow rowRight pairRight stepRight pot parts phi parity
+steps-right : T (everyBelow 64 rowRight)
+unfolding everyBelow rowRight pairRight stepRight pot parts phi parity
 steps-right = tt
 
-partings-right : T (allBelow 64 partingRight)
-unfolding allBelow partingRight pot parts phi parity
+partings-right : T (everyBelow 64 partingRight)
+unfolding everyBelow partingRight pot parts phi parity
 partings-right = tt
 
-meet-right : T (allBelow 64 meetRight)
-unfolding allBelow meetRight pot phi
+meet-right : T (everyBelow 64 meetRight)
+unfolding everyBelow meetRight pot phi
 meet-right = tt
 
 -- one step takes off the potential no more than the bits at which the two ways differ in it
 pub step-down : (s t b c : ℕ) → s < 64 → t < 64 → b < 2 → c < 2 → pot s t ≤ parts s t b c + pot (next deep s b) (next deep t c)
 unfolding rowRight pairRight stepRight
 step-down s t b c hs ht hb hc =
-    let p : T (pairRight s t) = at-each 64 (pairRight s) (at-each 64 rowRight steps-right s hs) t ht in
+    let p : T (pairRight s t) = everyBelow-at 64 (pairRight s) (everyBelow-at 64 rowRight steps-right s hs) t ht in
     let q = and-first (stepRight s t 0 0 && stepRight s t 0 1) (stepRight s t 1 0 && stepRight s t 1 1) p in
     let r = and-second (stepRight s t 0 0 && stepRight s t 0 1) (stepRight s t 1 0 && stepRight s t 1 1) p in
     let goal : ℕ → ℕ → Type 0 = λ b c. pot s t ≤ parts s t b c + pot (next deep s b) (next deep t c) in
@@ -74,7 +75,7 @@ step-down s t b c hs ht hb hc =
 pub parting : (s b c : ℕ) → s < 64 → b < 2 → c < 2 → (b ≡ c → ⊥) → 10 ≤ parts s s b c + pot (next deep s b) (next deep s c)
 unfolding partingRight
 parting s b c hs hb hc n =
-    let p = at-each 64 partingRight partings-right s hs in
+    let p = everyBelow-at 64 partingRight partings-right s hs in
     let goal : ℕ → ℕ → Type 0 = λ b c. 10 ≤ parts s s b c + pot (next deep s b) (next deep s c) in
     let x = leb 10 (parts s s 0 1 + pot (next deep s 0) (next deep s 1)) in
     let y = leb 10 (parts s s 1 0 + pot (next deep s 1) (next deep s 0)) in
@@ -93,4 +94,4 @@ parting s b c hs hb hc n =
 
 pub meeting : (s : ℕ) → s < 64 → pot s s ≡ 0
 unfolding meetRight
-meeting s h = eqb→eq (pot s s) 0 (at-each 64 meetRight meet-right s h)
+meeting s h = eqb→eq (pot s s) 0 (everyBelow-at 64 meetRight meet-right s h)

@@ -14,7 +14,8 @@ use Rattle.conv_theory.specs.declared.Cost.{Cost}
 use Rattle.conv_theory.specs.Code.{deep, parity, firstOut, secondOut}
 use Rattle.conv_theory.specs.Search.{costOf, branch}
 use Rattle.conv_theory.specs.Columns.{lower, higher, cheaper, choice}
-use Rattle.conv_theory.proofs.Basics.{allBelow, at-each, and-first, and-second}
+use Rattle.bits.proofs.Tests.{everyBelow, everyBelow-at}
+use Rattle.conv_theory.proofs.Basics.{and-first, and-second}
 
 abbrev pub firsts : List ℕ
 firsts = 0 ∷ 0 ∷ 0 ∷ 0 ∷ 1 ∷ 1 ∷ 1 ∷ 1 ∷ 1 ∷ 1 ∷ 1 ∷ 1 ∷ 0 ∷ 0 ∷ 0 ∷ 0 ∷ 1 ∷ 1 ∷ 1 ∷ 1 ∷ 0 ∷ 0 ∷ 0 ∷ 0 ∷ 0 ∷ 0 ∷ 0 ∷ 0 ∷ 1 ∷ 1 ∷ 1 ∷ 1 ∷ []
@@ -29,12 +30,12 @@ firstRight j = let f = getD firsts j 0 in (eqb (firstOut deep (2 * j) 0) f && eq
 secondRight : ℕ → Bool
 secondRight j = let f = getD seconds j 0 in (eqb (secondOut deep (2 * j) 0) f && eqb (secondOut deep (2 * j + 1) 0) (1 - f)) && (eqb (secondOut deep (2 * j) 1) (1 - f) && eqb (secondOut deep (2 * j + 1) 1) f)
 
-all-first : T (allBelow 32 firstRight)
-unfolding allBelow firstRight parity
+all-first : T (everyBelow 32 firstRight)
+unfolding everyBelow firstRight parity
 all-first = tt
 
-all-second : T (allBelow 32 secondRight)
-unfolding allBelow secondRight parity
+all-second : T (everyBelow 32 secondRight)
+unfolding everyBelow secondRight parity
 all-second = tt
 
 -- what the table says of j
@@ -65,25 +66,25 @@ outs-from out j f l t =
 firstSmall : ℕ → Bool
 firstSmall j = leb (getD firsts j 0) 1 && leb (getD seconds j 0) 1
 
-all-small : T (allBelow 32 firstSmall)
-unfolding allBelow firstSmall
+all-small : T (everyBelow 32 firstSmall)
+unfolding everyBelow firstSmall
 all-small = tt
 
 pub first-small : (j : ℕ) → j < 32 → getD firsts j 0 ≤ 1
 unfolding firstSmall
-first-small j h = leb→le _ _ (and-first (leb (getD firsts j 0) 1) (leb (getD seconds j 0) 1) (at-each 32 firstSmall all-small j h))
+first-small j h = leb→le _ _ (and-first (leb (getD firsts j 0) 1) (leb (getD seconds j 0) 1) (everyBelow-at 32 firstSmall all-small j h))
 
 pub second-small : (j : ℕ) → j < 32 → getD seconds j 0 ≤ 1
 unfolding firstSmall
-second-small j h = leb→le _ _ (and-second (leb (getD firsts j 0) 1) (leb (getD seconds j 0) 1) (at-each 32 firstSmall all-small j h))
+second-small j h = leb→le _ _ (and-second (leb (getD firsts j 0) 1) (leb (getD seconds j 0) 1) (everyBelow-at 32 firstSmall all-small j h))
 
 first-outs : (j : ℕ) → j < 32 → Outs (firstOut deep) j (getD firsts j 0)
 unfolding firstRight
-first-outs j h = outs-from (firstOut deep) j (getD firsts j 0) (first-small j h) (at-each 32 firstRight all-first j h)
+first-outs j h = outs-from (firstOut deep) j (getD firsts j 0) (first-small j h) (everyBelow-at 32 firstRight all-first j h)
 
 second-outs : (j : ℕ) → j < 32 → Outs (secondOut deep) j (getD seconds j 0)
 unfolding secondRight
-second-outs j h = outs-from (secondOut deep) j (getD seconds j 0) (second-small j h) (at-each 32 secondRight all-second j h)
+second-outs j h = outs-from (secondOut deep) j (getD seconds j 0) (second-small j h) (everyBelow-at 32 secondRight all-second j h)
 
 branch-is : (x y : Cost) (s b p q : ℕ) → firstOut deep s b ≡ p → secondOut deep s b ≡ q → branch deep x y s b ≡ costOf x p + costOf y q
 unfolding branch

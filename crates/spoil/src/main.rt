@@ -1,5 +1,5 @@
-// `spoil SEED P`: lines from standard input, spoiled, to standard output. A line becomes an empty one with probability 1 in 16;
-// else each of its digits is changed with probability P in 65,536.
+// `spoil SEED P`: lines of digits from standard input, spoiled as a bad line would, to standard output.
+// A line becomes an empty one with probability 1 in 16; else each of its digits is changed with probability P in 65,536.
 use bits::Refusal;
 use console::Failure;
 use console::FailureFromError;

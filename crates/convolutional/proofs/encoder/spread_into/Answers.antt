@@ -6,7 +6,7 @@ use native.Mathlib.Omega.{arith}
 use lib.ListN.{length}
 use Rattle.std.proofs.shelf.Lists.{length-append}
 use Rattle.bits.specs.Lists.{zeros}
-use Rattle.conv_theory.proofs.Basics.{length-zeros}
+use Rattle.bits.proofs.Tests.{length-zeros}
 use Rattle.convolutional.proofs.Encoding.{written-step, written-all}
 use Rattle.convolutional.proofs.encoder.spread_into.Needs as need
 
