@@ -1,9 +1,11 @@
 // A small fixed case taken through the link, layer by layer, and printed step by step for somebody who is new to it.
 mod bytes;
+mod evening;
 mod frames;
 mod inner;
 mod outer;
 mod show;
+mod transfer;
 
 use std::error::AnyError;
 
@@ -15,5 +17,6 @@ fn main(rt: LibcRuntime) -> Result<(), AnyError> {
     outer::section(&rt)?;
     inner::section(&rt)?;
     frames::section(&rt)?;
+    transfer::section(&rt)?;
     Ok(())
 }
