@@ -1,6 +1,9 @@
 // One evening: a ship, a station and a line that loses, keeps and repeats; after each event the library is held to the books.
 use super::book::Book;
 use super::book::Sense;
+use super::expected::ask;
+use super::expected::end;
+use super::expected::part;
 use super::random::Dice;
 use super::shore::Shore;
 use super::tally::Tally;
@@ -23,6 +26,13 @@ const NOTHING: Kept = Kept {
 
 // What lent memory holds before anything is written.
 pub const UNTOUCHED: u8 = 238;
+
+fn says_nothing(payload: [u8; 221]) -> Kept {
+    Kept {
+        sense: Sense::Nothing,
+        payload,
+    }
+}
 
 #[derive(Drop)]
 pub struct Evening {
@@ -128,6 +138,15 @@ impl Evening {
         self.tell_ship(&kept);
     }
 
+    // Numbers that the rules leave out: an ask for a part that the file has not, an end past the greatest length, a part past the last slot.
+    fn beyond(&mut self, shore: &mut Shore<'_>, dice: &mut Dice) {
+        let file = self.book.number;
+        let number = self.book.parts.saturating_add(dice.below(3));
+        self.tell_ship(&says_nothing(ask(file, number)));
+        self.tell_station(shore, &says_nothing(end(file, number, 214001)));
+        self.tell_station(shore, &says_nothing(part(file, 1000, &[])));
+    }
+
     // What was kept goes to the right side, or to the wrong one.
     fn late(&mut self, shore: &mut Shore<'_>, dice: &mut Dice) {
         let down = self.down[dice.below(8)];
@@ -148,11 +167,12 @@ impl Evening {
         content: &[u8],
         out: &mut [u8; 214000],
     ) {
-        match dice.below(12) {
+        match dice.below(13) {
             0..=4 => self.speak(shore, dice, content),
             5..=7 => self.reply(shore, dice),
             8 => self.foreign(shore, dice),
             9 | 10 => self.late(shore, dice),
+            11 => self.beyond(shore, dice),
             _ => {}
         }
         self.check(shore, content, out);
