@@ -140,3 +140,11 @@ pub fn end(rt: &LibcRuntime, result: Result<(), Failure>) -> Result<(), Failure>
     }
     result
 }
+
+// The arguments of a program that is called with a file's number and a file's name. Another count of arguments, or another form of the number, is refused.
+pub fn number_and_file(args: &[String]) -> Result<(u8, &str), Refusal> {
+    let [_, number, path] = args else {
+        return Err(Refusal::UnknownText);
+    };
+    Ok((text::file_number(number.as_bytes())?, path.as_str()))
+}

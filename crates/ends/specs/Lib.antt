@@ -1,0 +1,4 @@
+pub mod Hearing
+pub mod Turns
+pub mod Transcripts
+pub mod Laws
