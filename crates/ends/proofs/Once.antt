@@ -13,7 +13,7 @@ use Rattle.text.specs.Lines.{Said, Nothing, Bits, Unknown, said}
 use Rattle.transfer_theory.specs.Sender.{Sender, newSender, afterSaying, told}
 use Rattle.transfer_theory.specs.Receiver.{Receiver, newReceiver, hears, complete, handed}
 use Rattle.ends.specs.Hearing.{HeardOf, HeardIn}
-use Rattle.ends.specs.Turns.{saysLine, answerLine, Told, Heeded, ShipTurn}
+use Rattle.ends.specs.Turns.{saysLine, answerLine, Told, Heeded, ShipTurn, due}
 use Rattle.ends.specs.Transcripts.{doneLine, refusedLine, written, ShipPrints, ended, turned, finished, refused, ShipTranscript, StationPrints, silent, answered, declined, StationTranscript}
 use Rattle.ends.specs.Laws.{EndsRight}
 
@@ -49,6 +49,10 @@ held false x t e = absurd t
 in-time : (file : Option (List ℕ)) (v : Receiver) → T (complete v) → written file v ≡ None → ⊥
 in-time (Some f) v t e = some-none f e
 in-time None v t e = held (complete v) (handed v) t e
+
+writes : (file : Option (List ℕ)) (v : Receiver) → written file v ≡ cond (due (isSome file) v) (Some (handed v)) file
+writes (Some f) v = refl
+writes None v = refl
 
 known : (line : List ℕ) (h : Heard) → HeardIn line h → said 4092 line ≡ Unknown → ⊥
 known line h a e = subst (λ (x : Said). HeardOf x h) e a
@@ -156,4 +160,4 @@ station-lines n lines outs others file other p q = station-once lines (newReceiv
 
 pub ends-right : EndsRight
 ends-right =
-    record { oneThing = one-thing; ship = ship-turn; station = station-turn; shipLines = ship-lines; stationLines = station-lines; inTime = in-time }
+    record { oneThing = one-thing; ship = ship-turn; station = station-turn; shipLines = ship-lines; stationLines = station-lines; writes = writes; inTime = in-time }

@@ -1,16 +1,17 @@
 -- Laws of turns and transcripts: what is heard in a line is one thing, so a turn is what it is for every thing heard, and what is printed follows from what was read. Assumes nothing.
 use mathlib.Core.Path.{_≡_}
-use mathlib.Core.Bool.{Bool}
+use mathlib.Core.Bool.{Bool, cond}
 use mathlib.Core.List.{List}
 use Prim.Native.Nat.{ℕ}
 use lib.Dec.{T}
 use Rattle.std.specs.declared.option.Option.{Option}
-use Rattle.std.specs.declared.option.Option.the-variants.{None}
+use Rattle.std.specs.declared.option.Option.the-variants.{Some, None}
+use Rattle.std.specs.Options.{isSome}
 use Rattle.bits.specs.Heard.{Heard}
 use Rattle.transfer_theory.specs.Sender.{Sender, afterSaying, told}
-use Rattle.transfer_theory.specs.Receiver.{Receiver, hears, complete}
+use Rattle.transfer_theory.specs.Receiver.{Receiver, hears, complete, handed}
 use Rattle.ends.specs.Hearing.{HeardIn}
-use Rattle.ends.specs.Turns.{saysLine, Heeded, ShipTurn}
+use Rattle.ends.specs.Turns.{saysLine, Heeded, ShipTurn, due}
 use Rattle.ends.specs.Transcripts.{written, ShipTranscript, StationTranscript}
 
 pub record EndsRight : Type 0 where
@@ -26,5 +27,7 @@ pub record EndsRight : Type 0 where
   pub stationLines :
       (n : ℕ) (lines outs others : List (List ℕ)) (file other : Option (List ℕ)) → StationTranscript n lines outs file →
       StationTranscript n lines others other → (outs ≡ others) × (file ≡ other)
+  -- the file is written when that is due, and holds what is handed over then
+  pub writes : (file : Option (List ℕ)) (v : Receiver) → written file v ≡ cond (due (isSome file) v) (Some (handed v)) file
   -- the file is written before all-there is answered
   pub inTime : (file : Option (List ℕ)) (v : Receiver) → T (complete v) → written file v ≡ None → ⊥

@@ -1,6 +1,6 @@
 -- One turn of each end, from a line read to a line printed. Assumes nothing.
 use mathlib.Core.Path.{_≡_}
-use mathlib.Core.Bool.{Bool, true, false, cond}
+use mathlib.Core.Bool.{Bool, true, false, cond, not, _&&_}
 use mathlib.Core.List.{List, []}
 use Prim.Native.Nat.{ℕ}
 use lib.Dec.{ltb}
@@ -11,7 +11,7 @@ use Rattle.bits.specs.declared.Refusal.{Refusal}
 use Rattle.bits.specs.Heard.{Heard, Lost, Got}
 use Rattle.frame_theory.specs.Frame.{frame}
 use Rattle.transfer_theory.specs.Sender.{Sender, senderAt, says, afterSaying, told}
-use Rattle.transfer_theory.specs.Receiver.{Receiver, hears, answers}
+use Rattle.transfer_theory.specs.Receiver.{Receiver, hears, answers, complete}
 use Rattle.link.specs.declared.ends.TheLink.{TheLink}
 use Rattle.text.specs.Lines.{digits}
 use Rattle.ends.specs.Hearing.{HeardIn, Refused}
@@ -57,3 +57,7 @@ ShipHeard was is line (Err e) = Refused line e × (is ≡ was)
 abbrev pub StationHeard : Receiver → Receiver → List ℕ → Result (Unit {0}) Refusal → Type 0
 StationHeard was is line (Ok u) = Heeded line was is
 StationHeard was is line (Err e) = Refused line e × (is ≡ was)
+
+-- whether the station's file is to be written now: it is complete, and nothing was written yet
+abbrev pub due : Bool → Receiver → Bool
+due written v = not written && complete v

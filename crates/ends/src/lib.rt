@@ -8,6 +8,7 @@ mod station;
 pub use ship::ship_first;
 pub use ship::ship_turn;
 pub use station::hand_over;
+pub use station::leave_once;
 pub use station::station_answers;
 pub use station::station_hears;
 

@@ -2,11 +2,12 @@
 ghost use mathlib.Core.Path.{_≡_};
 ghost use Prim.Native.Nat.{_≤_};
 ghost use lib.ListN.{take};
+ghost use Rattle.std.specs.Options.{isSome};
 ghost use Rattle.transfer_theory.specs.Receiver.{handed, hears};
 ghost use Rattle.transfer.specs.Stations.{receiverIn, Sound};
 ghost use Rattle.text.specs.Input.{textOf};
 ghost use Rattle.ends.specs.Hearing.{thing};
-ghost use Rattle.ends.specs.Turns.{answerLine, StationHeard};
+ghost use Rattle.ends.specs.Turns.{answerLine, due, StationHeard};
 use super::hearing::hear_line;
 use bits::Refusal;
 use frame::Radio;
@@ -55,6 +56,17 @@ pub fn station_answers(ground: &TheGround, line: &mut Line)
     } else {
         line.clear();
     }
+}
+
+// Leave to write the file, if and only if the station is complete and nothing was written yet.
+pub fn leave_once(ground: &TheGround, written: bool) -> Option<Leave>
+    requires { ⌜ Sound (now ground) ⌝ }
+    ensures { λ r. ⌜ isSome r ≡ due written (receiverIn (now (ground .entry))) ⌝ }
+{
+    if written {
+        return None;
+    }
+    ground.leave()
 }
 
 // Spends the leave: the file is the first bytes of `out`, so many as this answers.

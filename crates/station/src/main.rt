@@ -6,6 +6,7 @@ use console::FailureFromAllocError;
 use console::FailureFromError;
 use console::FailureFromRefusal;
 use ends::hand_over;
+use ends::leave_once;
 use ends::station_answers;
 use ends::station_hears;
 use link::TheGround;
@@ -15,18 +16,23 @@ use text::Line;
 const USAGE: &str =
     "usage: station N FILE, N from 0 to 255; what is heard comes on standard input, a frame or an empty line at a time";
 
-// Writes the file if the station is complete, by spending its leave, and says whether it did.
-fn write_complete(rt: &LibcRuntime, path: &str, ground: &TheGround) -> Result<bool, Failure>
+// Writes the file if that is due, by spending the leave, and says whether it is written now.
+fn write_due(
+    rt: &LibcRuntime,
+    path: &str,
+    ground: &TheGround,
+    written: bool,
+) -> Result<bool, Failure>
     requires { ⌜ Sound (now ground) ⌝ }
 {
-    match ground.leave() {
+    match leave_once(ground, written) {
         Some(leave) => {
             let mut out = [0u8; 214000];
             let count = hand_over(ground, leave, &mut out);
             console::write_file(rt, path, &out[0..count])?;
             Ok(true)
         }
-        None => Ok(false),
+        None => Ok(written),
     }
 }
 
@@ -44,9 +50,7 @@ fn listen(rt: &LibcRuntime, path: &str, ground: &mut TheGround) -> Result<(), Fa
         if let Err(e) = station_hears(ground, &line) {
             return Err(console::blame_line(rt, n, e));
         }
-        if !written {
-            written = write_complete(rt, path, ground)?;
-        }
+        written = write_due(rt, path, ground, written)?;
         station_answers(ground, &mut line);
         console::print_line(rt, &line)?;
     }
