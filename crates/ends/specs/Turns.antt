@@ -1,6 +1,6 @@
 -- One turn of each end, from a line read to a line printed. Assumes nothing.
 use mathlib.Core.Path.{_≡_}
-use mathlib.Core.Bool.{Bool, true, false, cond, not, _&&_}
+use mathlib.Core.Bool.{Bool, cond, not, _&&_}
 use mathlib.Core.List.{List, []}
 use Prim.Native.Nat.{ℕ}
 use lib.Dec.{ltb}
@@ -8,7 +8,7 @@ use Rattle.std.specs.declared.result.Result.{Result}
 use Rattle.std.specs.declared.result.Result.the-variants.{Ok, Err}
 use Rattle.std.specs.Of.Vec.{vec-items}
 use Rattle.bits.specs.declared.Refusal.{Refusal}
-use Rattle.bits.specs.Heard.{Heard, Lost, Got}
+use Rattle.bits.specs.Heard.{Heard}
 use Rattle.frame_theory.specs.Frame.{frame}
 use Rattle.transfer_theory.specs.Sender.{Sender, senderAt, says, afterSaying, told}
 use Rattle.transfer_theory.specs.Receiver.{Receiver, hears, answers, complete}

@@ -3,7 +3,6 @@ ghost use Rattle.text.specs.Input.{textOf};
 ghost use Rattle.ends.specs.Hearing.{BitsHeard, LineHeard, thing};
 use bits::Refusal;
 use frame::Radio;
-use link::TheLink;
 use link::TheRadio;
 use text::FRAME;
 use text::Form;

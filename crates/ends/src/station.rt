@@ -12,7 +12,6 @@ use super::hearing::hear_line;
 use bits::Refusal;
 use frame::Radio;
 use link::TheGround;
-use link::TheLink;
 use link::TheRadio;
 use link::TheStation;
 use text::FRAME;

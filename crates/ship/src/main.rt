@@ -1,5 +1,4 @@
 // `ship N FILE`: sends FILE under the number N. It prints a frame, and then for each line that it reads, a frame or an empty one, its next frame; `done` once the other side has it all.
-use bits::Refusal;
 use console::Failure;
 use console::FailureFromAllocError;
 use console::FailureFromError;
