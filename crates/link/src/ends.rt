@@ -1,6 +1,9 @@
 // The real ends under the names that programs use: the radio and the ship in one value.
-ghost use Rattle.transfer_theory.specs.Sender.{senderAt};
+ghost use mathlib.Core.Path.{_≡_};
+ghost use mathlib.Core.List.{[]};
 ghost use Rattle.std.specs.Of.Vec.{vec-items};
+ghost use Rattle.std.specs.Vec.{made};
+ghost use Rattle.transfer_theory.specs.Sender.{senderAt, newSender};
 use frame::Codec;
 use frame::CodecRadio;
 use frame::Radio;
@@ -16,8 +19,10 @@ pub struct TheLink {
 }
 
 impl TheLink {
-    // A ship with an empty file; it fails only for want of memory.
-    pub fn new(heap: Global) -> Result<TheLink, AllocError> {
+    // A ship with an empty file of number 0; it fails only for want of memory.
+    pub fn new(heap: Global) -> Result<TheLink, AllocError>
+        ensures { λ r. ⌜ made r (λ l. senderAt (l .vessel .file) (vec-items (l .vessel .content)) (l .vessel .place) (l .vessel .done) ≡ newSender 0 []) ⌝ }
+    {
         Ok(TheLink {
             vessel: Vessel::new(heap)?,
         })
