@@ -1,4 +1,5 @@
 // Rehearsals: a ship and a station on one table, with a noisy line between them that counts what goes on.
+#![tactic(auto)]
 ghost use Rattle.rehearsal.specs.Laws.{RehearsalRight};
 
 mod noisy;

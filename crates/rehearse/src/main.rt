@@ -1,4 +1,5 @@
 // `rehearse N FILE SEED P ROUNDS`: plays ship, spoil, station and spoil again on one table, and prints what was heard each way, how many bits were wrong, and after how many rounds FILE was handed over.
+#![tactic(auto)]
 mod progress;
 
 use bits::Refusal;

@@ -1,4 +1,5 @@
 // `ship N FILE`: sends FILE under the number N. It prints a frame, and then for each line that it reads, a frame or an empty one, its next frame; `done` once the other side has it all.
+#![tactic(auto)]
 use console::Failure;
 use ends::{ship_first, ship_turn};
 use link::TheLink;

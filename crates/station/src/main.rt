@@ -1,4 +1,5 @@
 // `station N FILE`: receives the file of number N. For each line that it reads, a frame or an empty one, it prints its answer's frame, or an empty line while it has none; FILE is written once, when all of it is there.
+#![tactic(auto)]
 ghost use Rattle.transfer.specs.Stations.{Sound};
 
 use console::Failure;

@@ -1,4 +1,5 @@
 // A small fixed case taken through the link, layer by layer, and printed step by step for somebody who is new to it.
+#![tactic(auto)]
 
 mod bytes;
 mod evening;
