@@ -1,6 +1,6 @@
 -- One step of the loops that turn bytes into bits and bits into bytes. Assumes nothing.
-use Rattle.std.proofs.Common.{◌≡◌, ℕ, zero, suc, ◌+◌, ◌-◌, ◌*◌, ◌<◌, ◌≤◌, List, [], ◌∷◌, ◌++◌, length, get_or, take, drop, set, sym, refl, ap, ◌∙◌, subst, append_assoc, append-nil, add-zero, arith, lit<, length-append, length-drop}
-use Rattle.std.proofs.lemmas.List.{take_more, take_at, drop_at, drop-drop, drop_all, take_all, take_more_set, drop_more, length-take-le, get_or-take, get_or-drop}
+use Rattle.std.proofs.Common.{◌≡◌, ℕ, suc, ◌+◌, ◌-◌, ◌*◌, ◌<◌, ◌≤◌, List, [], ◌∷◌, ◌++◌, length, get_or, take, drop, set, sym, refl, ap, ◌∙◌, append_assoc, append-nil, add-zero, arith, lit<}
+use Rattle.std.proofs.lemmas.List.{take_more, take_at, drop_at, drop-drop, drop_all, take_all, take_more_set, length-take-le, get_or-take, get_or-drop}
 use Rattle.bits.specs.Bytes.{bits_of, all_bits, byte_of, all_bytes}
 use Rattle.bits.proofs.Packing.{length-all_bits}
 

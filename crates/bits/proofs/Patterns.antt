@@ -1,9 +1,9 @@
 -- The pattern's laws: length, bits, twice is nothing, over zeros it is itself; and the vectors. Assumes nothing.
-use Rattle.std.proofs.Common.{◌≡◌, ℕ, zero, suc, ◌+◌, ◌%◌, ◌<◌, T, List, [], ◌∷◌, length, sym, refl, ap, ◌∙◌, arith}
+use Rattle.std.proofs.Common.{◌≡◌, ℕ, zero, suc, ◌+◌, ◌%◌, ◌<◌, T, List, [], ◌∷◌, length, refl, ap, ◌∙◌, arith}
 use Rattle.bits.specs.Lists.{are_bits, zeros}
 use Rattle.bits.specs.Bytes.{all_bytes}
-use Rattle.bits.specs.Crc.{crc, crc_from, shifted_by}
-use Rattle.bits.specs.Pattern.{stepped, pattern, plus, patterned_from, patterned}
+use Rattle.bits.specs.Crc.{crc_from, shifted_by}
+use Rattle.bits.specs.Pattern.{stepped, pattern, plus, patterned_from}
 use Rattle.bits.specs.Laws.{PatternLaws, Vectors, BitsRight}
 use Rattle.bits.proofs.Hamming.{metric}
 use Rattle.bits.proofs.Packing.{round_trip}

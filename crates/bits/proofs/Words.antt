@@ -1,5 +1,5 @@
 -- Eight bytes as one word, the lowest byte first: how a product spreads the bits of a byte over a word, and how one gathers them. Assumes nothing.
-use Rattle.std.proofs.Common.{◌≡◌, ℕ, ◌+◌, ◌*◌, ◌/◌, ◌%◌, ◌<◌, Bool, T, eqb, List, [], ◌∷◌, length, sym, refl, ap, ◌∙◌, ap₂, arith, eqb→eq}
+use Rattle.std.proofs.Common.{◌≡◌, ℕ, ◌+◌, ◌*◌, ◌/◌, ◌%◌, ◌<◌, Bool, T, eqb, List, [], ◌∷◌, length, refl, ap, ◌∙◌, ap₂, arith, eqb→eq}
 use lib.Bits.{bit_and, and_block, and_mask}
 use Rattle.bits.specs.Lists.{are_bytes, are_bits}
 use Rattle.bits.specs.Bytes.{bits_of, byte_of}

@@ -1,5 +1,6 @@
 // Bytes and bits, the check of 16 bits, the pseudo-random pattern, and the closed list of refusals: what every layer of the link shares.
 #![tactic(auto)]
+
 ghost use Rattle.std.specs.Prelude.{◌≡◌};
 ghost use Rattle.bits.specs.Laws.{BitsRight};
 ghost use Rattle.bits.specs.Refusals.{number};

@@ -4,4 +4,4 @@ use Rattle.bits.proofs.Loops.{byte_of-at}
 use Rattle.bits.proofs.bytes.byte_at.Goals as goal
 
 pub returns : goal.returns
-returns c = c.byte-of.ensures ∙ byte_of-at c.args.bits.now c.args.at
+returns c = c.byte_of.ensures ∙ byte_of-at c.args.bits.now c.args.at

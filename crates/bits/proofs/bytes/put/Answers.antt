@@ -10,5 +10,5 @@ returns c =
     let xs = c.args.out.now in
     let i = c.args.at in
     let k = (i + 8) - i in
-    ap (λ (ys : List ℕ). take i xs ++ (ys ++ post_of i k xs)) (c.copy-from-slice.ensures.after ∙ c.bits-of.ensures)
+    ap (λ (ys : List ℕ). take i xs ++ (ys ++ post_of i k xs)) (c.copy_from_slice.ensures.after ∙ c.bits_of.ensures)
     ∙ ap (λ (ys : List ℕ). take i xs ++ (bits_of c.args.b ++ ys)) (drop-drop k i xs ∙ ap (λ (n : ℕ). drop n xs) (let e : i + k ≡ i + 8 = omega arith in e))

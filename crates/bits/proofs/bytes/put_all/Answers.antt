@@ -1,5 +1,5 @@
 -- Each turn writes the bits of one byte more.
-use Rattle.std.proofs.Common.{◌≡◌, ℕ, ◌+◌, sym, ap, ◌∙◌, arith}
+use Rattle.std.proofs.Common.{◌∙◌, arith}
 use Rattle.bits.proofs.Loops.{unpacked-none, unpacked-more, unpacked-all}
 use Rattle.bits.proofs.bytes.put_all.Goals as goal
 

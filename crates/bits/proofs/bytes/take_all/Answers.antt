@@ -1,5 +1,5 @@
 -- Each turn writes one byte more.
-use Rattle.std.proofs.Common.{◌≡◌, ℕ, ◌+◌, length, set, sym, ap, ◌∙◌, arith}
+use Rattle.std.proofs.Common.{ℕ, ◌+◌, length, set, sym, ap, ◌∙◌, arith}
 use Rattle.bits.proofs.Loops.{packed, packed_more, packed_all}
 use Rattle.bits.proofs.bytes.take_all.Goals as goal
 
@@ -8,7 +8,7 @@ loop-i-preserved c =
     let xs = c.args.bits.now in
     let n = length c.args.out.now in
     let i = c.loop-i.i in
-    ap (λ (y : ℕ). packed n (i + 1) xs (set c.loop-i.out i y)) c.byte-at.ensures
+    ap (λ (y : ℕ). packed n (i + 1) xs (set c.loop-i.out i y)) c.byte_at.ensures
     ∙ packed_more xs c.loop-i.out n i (omega arith) (omega arith)
     ∙ c.loop-i.invariant
 

@@ -1,5 +1,5 @@
 -- Each turn takes one shift from what is left.
-use Rattle.std.proofs.Common.{◌≡◌, ℕ, suc, ◌+◌, ◌-◌, sym, ap, ◌∙◌, arith}
+use Rattle.std.proofs.Common.{ℕ, ◌+◌, ◌-◌, sym, ap, ◌∙◌, arith}
 use Rattle.bits.specs.Crc.{shifted_by}
 use Rattle.bits.proofs.Steps.{shifted_by-more, shifted_by-none}
 use Rattle.bits.proofs.check.stir.Goals as goal

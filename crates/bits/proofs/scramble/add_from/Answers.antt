@@ -1,5 +1,5 @@
 -- Each turn writes one row more.
-use Rattle.std.proofs.Common.{◌≡◌, ℕ, ◌+◌, ◌-◌, ◌≤◌, ◌⊎◌, List, length, sym, ap, ◌∙◌, subst, inl, inr, arith}
+use Rattle.std.proofs.Common.{◌≡◌, ℕ, ◌-◌, ◌≤◌, List, length, sym, ◌∙◌, subst, inl, inr, arith}
 use borrow.Rule.Slice.PartMut.{put_mid}
 use Rattle.bits.proofs.Steps.{halfway, patterned-all}
 use Rattle.bits.proofs.Rows.{RowEnds, length-row, halfway-row}
@@ -17,7 +17,7 @@ loop-at-preserved c =
       | else-bits-at-lt255 w ↦ (omega arith, omega arith, inl (omega arith))
     ] in
     subst (λ (ys : List ℕ). (end ≤ length (put_mid at (end - at) xs ys)) × (halfway end 255 (put_mid at (end - at) xs ys) ≡ halfway c.args.start 255 c.args.bits.now))
-    (sym c.add-row.ensures)
+    (sym c.add_row.ensures)
     (omega (arith, length-row xs at end ends, ends.1), halfway-row xs at end ends ∙ c.loop-at.invariant.1)
 
 pub returns : goal.returns

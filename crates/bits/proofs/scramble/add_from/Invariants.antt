@@ -1,6 +1,5 @@
 -- What is written, and the pattern over what is left, from its beginning, is what it is to be.
-use Rattle.std.proofs.Common.{◌≡◌, ◌-◌, ◌≤◌, ◌++◌, length, take, drop}
-use Rattle.bits.specs.Pattern.{patterned}
+use Rattle.std.proofs.Common.{◌≡◌, ◌-◌, ◌≤◌, length}
 use Rattle.bits.proofs.Steps.{halfway}
 use Rattle.bits.proofs.scramble.add_from.Given as goal
 

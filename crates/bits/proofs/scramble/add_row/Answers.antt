@@ -12,8 +12,8 @@ pub loop-i-preserved : goal.loop-i-preserved
 loop-i-preserved c =
     let xs = c.loop-i.bits in
     let i = c.loop-i.i in
-    let bit : c.pattern-bit.result ≡ after i 255 % 2 = c.pattern-bit.ensures ∙ pattern-at 255 255 i (omega arith) in
-    let y : ℕ = (get_or xs i 0 % 2 + c.pattern-bit.result % 2) % 2 in
+    let bit : c.pattern_bit.result ≡ after i 255 % 2 = c.pattern_bit.ensures ∙ pattern-at 255 255 i (omega arith) in
+    let y : ℕ = (get_or xs i 0 % 2 + c.pattern_bit.result % 2) % 2 in
     ap (λ (r : ℕ). halfway (i + 1) r (set xs i y)) (after_more i 255)
     ∙ patterned-more xs i (after i 255) y (omega arith) (omega arith)
     ∙ c.loop-i.invariant
