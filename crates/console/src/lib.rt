@@ -1,6 +1,7 @@
 // What every program does: arguments, lines in and out, whole files, and how it ends. Nothing can be said in a contract of what
 // is read or printed, so these functions are proved safe and ending only; what they hand on is proved in the crates below.
 #![tactic(auto)]
+
 mod files;
 
 use bits::Refusal;

@@ -1,5 +1,6 @@
 // The driver: plays rounds over any ship, station and line, and says in which round the station was first complete and whether the ship was told.
 #![tactic(auto)]
+
 ghost use Rattle.std.specs.Prelude.{◌≡◌, ◌<◌, ◌≤◌, true, false};
 ghost use Rattle.bits.specs.Heard.{Got};
 ghost use Rattle.transfer_theory.specs.Sender.{told};

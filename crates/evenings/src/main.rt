@@ -1,5 +1,6 @@
 // Thousands of evenings by chance, from a fixed seed: after each event both sides are held to the rules, computed anew.
 #![tactic(auto)]
+
 mod book;
 mod evening;
 mod expected;

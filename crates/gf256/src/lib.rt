@@ -1,5 +1,6 @@
 // The field of 256 elements: products, inverses and powers by tables, and its laws.
 #![tactic(auto)]
+
 ghost use Rattle.std.specs.Prelude.{◌≡◌, ◌<◌, MatchOption};
 ghost use Rattle.gf256.specs.Field.{product, power};
 ghost use Rattle.gf256.specs.Laws.{FieldLaws, IsInverse, IsLog};

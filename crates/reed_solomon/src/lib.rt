@@ -1,5 +1,6 @@
 // The outer code: words of 255 bytes, their encoding, their syndromes, and a repair that finds every code word within 16 places.
 #![tactic(auto)]
+
 mod decoder;
 mod encoder;
 mod rows;

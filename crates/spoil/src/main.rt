@@ -1,6 +1,7 @@
 // `spoil SEED P`: lines of digits from standard input, spoiled as a bad line would, to standard output.
 // A line becomes an empty one with probability 1 in 16; else each of its digits is changed with probability P in 65,536.
 #![tactic(auto)]
+
 use bits::Refusal;
 use console::Failure;
 use std::io::BufReader;

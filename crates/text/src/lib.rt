@@ -1,5 +1,6 @@
 // Text and values: lines of digits, numbers as arguments, and the noise that spoils lines.
 #![tactic(auto)]
+
 ghost use Rattle.text.specs.Laws.{TextRight};
 
 mod input;

@@ -6,5 +6,5 @@ use Rattle.text.proofs.input.front.Goals as goal
 
 pub returns : goal.returns
 returns c =
-    let e : c.newline-in-end.result - 0 ≡ length (before c.args.chunk.now) = omega arith in
+    let e : c.newline_in-end.result - 0 ≡ length (before c.args.chunk.now) = omega arith in
     ap (λ (n : ℕ). take n c.args.chunk.now) e ∙ take-before c.args.chunk.now

@@ -4,7 +4,7 @@ use Rattle.text.proofs.Digits.{are_digits-more, are_digits-all}
 use Rattle.text.proofs.lines.all_digits.Goals as goal
 
 pub loop-x-preserved : goal.loop-x-preserved
-loop-x-preserved c = sym (are_digits-more c.args.line.now c.loop-x.x-index true (omega arith) (sym c.is-digit.ensures ∙ c.if-not-is-digit.false)) ∙ c.loop-x.invariant
+loop-x-preserved c = sym (are_digits-more c.args.line.now c.loop-x.x-index true (omega arith) (sym c.is_digit.ensures ∙ c.if-not-is_digit.false)) ∙ c.loop-x.invariant
 
 pub returns-then-not-is-digit : goal.returns-then-not-is-digit
 returns-then-not-is-digit c = sym (are_digits-more c.args.line.now c.loop-x.x-index false (omega arith) (sym c.is-digit.ensures ∙ c.if-not-is-digit.true)) ∙ c.loop-x.invariant

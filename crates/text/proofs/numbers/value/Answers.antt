@@ -10,7 +10,7 @@ pub loop-x-preserved : goal.loop-x-preserved
 loop-x-preserved c =
     let xs = c.args.text.now in
     let i = c.loop-x.x-index in
-    let e = c.in-ok-v.ensures in (
+    let e = c.in_ok-v.ensures in (
       ap (λ (w : ℕ). decimal_from w (drop (i + 1) xs)) e.1 ∙ sym (decimal_from-more xs i c.loop-x.v (omega arith)) ∙ c.loop-x.invariant.0,
       ap (λ (b : Bool). b && are_decimal (drop (i + 1) xs)) (sym e.0) ∙ sym (are_decimal-more xs i (omega arith)) ∙ c.loop-x.invariant.1,
       e.2,

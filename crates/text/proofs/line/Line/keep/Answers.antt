@@ -11,9 +11,9 @@ returns c =
     let count = c.args.self.now.count in
     let more = c.args.more.now in
     let n = c.min-n.result in
-    let ys = c.copy-from-slice.new.self in
+    let ys = c.copy_from_slice.new.self in
     let same : n - 0 ≡ n = omega arith in
-    let after : ys ≡ take n more = c.copy-from-slice.ensures.after ∙ ap (λ (k : ℕ). take k more) same in
+    let after : ys ≡ take n more = c.copy_from_slice.ensures.after ∙ ap (λ (k : ℕ). take k more) same in
     let long : length ys ≡ n = ap (λ (zs : List ℕ). length zs) after ∙ length-take-le n more (omega arith) in
     take-put_mid count ((count + n) - count) old ys (count + n) (omega arith) (omega arith)
     ∙ ap (λ (zs : List ℕ). take count old ++ zs) after
