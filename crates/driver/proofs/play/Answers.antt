@@ -9,15 +9,15 @@ use Rattle.driver.proofs.play.Goals as goal
 pub returns : goal.returns
 returns g c =
     record {
-      sound = c.play-on.ensures.sound;
+      sound = c.play_on.ensures.sound;
       played = (played, promised s v played.log played.spoken);
-      told = c.play-on.ensures.told;
-      budget = c.play-on.ensures.budget (omega arith);
-      stopped = c.play-on.ensures.stopped;
-      enough = λ f b n h w r l. c.play-on.ensures.told ∙
-          played-enough g.L.TracedLine.forth g.L.TracedLine.back c.args.line.now c.play-on.new.line s (g.S.Ship.sender c.play-on.new.ship)
-          v (g.G.Station.receiver c.play-on.new.station) c.play-on.result.rounds c.play-on.result.complete c.args.budget played
-          (λ a. sym c.play-on.ensures.told ∙ c.play-on.ensures.stopped a) f b n h w r l;
+      told = c.play_on.ensures.told;
+      budget = c.play_on.ensures.budget (omega arith);
+      stopped = c.play_on.ensures.stopped;
+      enough = λ f b n h w r l. c.play_on.ensures.told ∙
+          played-enough g.L.TracedLine.forth g.L.TracedLine.back c.args.line.now c.play_on.new.line s (g.S.Ship.sender c.play_on.new.ship)
+          v (g.G.Station.receiver c.play_on.new.station) c.play_on.result.rounds c.play_on.result.complete c.args.budget played
+          (λ a. sym c.play_on.ensures.told ∙ c.play_on.ensures.stopped a) f b n h w r l;
     }
   where
     s : Sender
@@ -27,6 +27,6 @@ returns g c =
     v = g.G.Station.receiver c.args.station.now
 
     played :
-        Played g.L.TracedLine.forth g.L.TracedLine.back c.args.line.now c.play-on.new.line s (g.S.Ship.sender c.play-on.new.ship) v
-        (g.G.Station.receiver c.play-on.new.station) c.play-on.result.rounds c.play-on.result.complete
-    played = c.play-on.ensures.played c.args.line.now s v (played-none g.L.TracedLine.forth g.L.TracedLine.back c.args.line.now s v)
+        Played g.L.TracedLine.forth g.L.TracedLine.back c.args.line.now c.play_on.new.line s (g.S.Ship.sender c.play_on.new.ship) v
+        (g.G.Station.receiver c.play_on.new.station) c.play_on.result.rounds c.play_on.result.complete
+    played = c.play_on.ensures.played c.args.line.now s v (played-none g.L.TracedLine.forth g.L.TracedLine.back c.args.line.now s v)

@@ -13,16 +13,16 @@ returns c =
     let cs = c.args.costs.now in
     let n = length c.args.out.now in
     let m = length c.args.decisions.now in
-    let fit : memory_fits 1000000 (length cs) m n ≡ true = sym c.memory-fits.ensures ∙ c.if-not-memory-fits.false in
+    let fit : memory_fits 1000000 (length cs) m n ≡ true = sym c.memory_fits.ensures ∙ c.if-not-memory_fits.false in
     let f = fits 1000000 (length cs) m n fit in
     record {
       found = (
-        c.read-back.ensures cs f.coded-are (subst (λ (k : ℕ). Decided cs k c.forward-least.new.decisions) f.columns-are c.forward-least.ensures.decided),
+        c.read_back.ensures cs f.coded-are (subst (λ (k : ℕ). Decided cs k c.forward-least.new.decisions) f.columns-are c.forward-least.ensures.decided),
         c.forward-least.ensures.cost ∙ ap (λ (k : ℕ). get_or (costs_after cs k) 0 0) f.columns-are ∙ end-cost n cs f.coded-are,
       );
       cheapest =
           subst (λ (o : List ℕ). Cheapest n cs o)
-          (sym (c.read-back.ensures cs f.coded-are (subst (λ (k : ℕ). Decided cs k c.forward-least.new.decisions) f.columns-are c.forward-least.ensures.decided)))
+          (sym (c.read_back.ensures cs f.coded-are (subst (λ (k : ℕ). Decided cs k c.forward-least.new.decisions) f.columns-are c.forward-least.ensures.decided)))
           (optimal n cs f.coded-are);
       memory = λ e. both (memory_fits 1000000 (length cs) m n) fit e;
       taken = λ _. refl;

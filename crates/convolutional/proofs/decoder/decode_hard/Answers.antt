@@ -15,17 +15,17 @@ returns c =
     let r = c.args.bits.now in
     let n = length c.args.out.now in
     let m = length c.args.decisions.now in
-    let fit : memory_fits 16250 (length r) m n ≡ true = sym c.memory-fits.ensures ∙ c.if-not-memory-fits.false in
-    let bin : are_bits r ≡ true = sym c.all-bits.ensures ∙ c.if-not-all-bits.false in
+    let fit : memory_fits 16250 (length r) m n ≡ true = sym c.memory_fits.ensures ∙ c.if-not-memory_fits.false in
+    let bin : are_bits r ≡ true = sym c.all_bits.ensures ∙ c.if-not-all_bits.false in
     let f = fits 16250 (length r) m n fit in
     record {
       found = (
-        c.read-back.ensures (map hard r) (length-map r hard ∙ f.coded-are) (subst (λ (k : ℕ). Decided (map hard r) k c.forward-hard-distance.new.decisions) f.columns-are c.forward-hard-distance.ensures.decided),
-        c.from.ensures ∙ c.forward-hard-distance.ensures.cost ∙ ap (λ (k : ℕ). get_or (costs_after (map hard r) k) 0 0) f.columns-are ∙ hard-distance n r f.coded-are (holds (are_bits r) bin),
+        c.read_back.ensures (map hard r) (length-map r hard ∙ f.coded-are) (subst (λ (k : ℕ). Decided (map hard r) k c.forward_hard-distance.new.decisions) f.columns-are c.forward_hard-distance.ensures.decided),
+        c.from.ensures ∙ c.forward_hard-distance.ensures.cost ∙ ap (λ (k : ℕ). get_or (costs_after (map hard r) k) 0 0) f.columns-are ∙ hard-distance n r f.coded-are (holds (are_bits r) bin),
       );
       nearest =
           subst (λ (o : List ℕ). Nearest n r o)
-          (sym (c.read-back.ensures (map hard r) (length-map r hard ∙ f.coded-are) (subst (λ (k : ℕ). Decided (map hard r) k c.forward-hard-distance.new.decisions) f.columns-are c.forward-hard-distance.ensures.decided)))
+          (sym (c.read_back.ensures (map hard r) (length-map r hard ∙ f.coded-are) (subst (λ (k : ℕ). Decided (map hard r) k c.forward_hard-distance.new.decisions) f.columns-are c.forward_hard-distance.ensures.decided)))
           (nearest n r f.coded-are (holds (are_bits r) bin));
       memory = λ e. both (memory_fits 16250 (length r) m n) fit e;
       binary = λ _ e. both (are_bits r) bin e;

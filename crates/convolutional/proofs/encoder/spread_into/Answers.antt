@@ -8,14 +8,14 @@ use Rattle.convolutional.proofs.encoder.spread_into.Goals as goal
 
 pub loop-i-preserved : goal.loop-i-preserved
 loop-i-preserved c =
-    let b = c.bit-at.ensures.small in
+    let b = c.bit_at.ensures.small in
     let s = c.loop-i.invariant.0 in
     let full = c.args.bits.now ++ zeros 6 in
     let l = length-append c.args.bits.now (zeros 6) in
     let z = length-zeros 6 in (
       omega arith,
-      written_step full c.loop-i.out c.loop-i.i c.loop-i.state c.bit-at.result c.outputs-first.result.0 c.outputs-first.result.1 _
-          (omega arith) (omega (arith, l, z)) (sym c.bit-at.ensures.is) c.outputs-first.ensures.first c.outputs-first.ensures.second (omega arith) c.loop-i.invariant.1,
+      written_step full c.loop-i.out c.loop-i.i c.loop-i.state c.bit_at.result c.outputs-first.result.0 c.outputs-first.result.1 _
+          (omega arith) (omega (arith, l, z)) (sym c.bit_at.ensures.is) c.outputs-first.ensures.first c.outputs-first.ensures.second (omega arith) c.loop-i.invariant.1,
     )
 
 pub returns : goal.returns

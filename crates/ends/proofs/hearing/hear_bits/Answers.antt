@@ -12,8 +12,8 @@ returns-in-1 c line e =
     let one : c.hear.result ≡ 1 = search rules in
     subst (λ (s : Said). HeardOf s (Got c.hear.new.out)) (sym e) (c.hear.ensures.payload one)
 
-pub returns-in-default : goal.returns-in-default
-returns-in-default c line e =
+pub returns-in_default : goal.returns-in_default
+returns-in_default c line e =
     let other : c.hear.result ≡ 1 → ⊥ = search rules in
     let parts = line-laws.frames_only 4092 line c.args.bits.now e in
     let taken = c.hear.ensures.taken parts.1 parts.2 in

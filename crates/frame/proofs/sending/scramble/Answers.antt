@@ -7,6 +7,6 @@ use Rattle.frame.proofs.sending.scramble.Goals as goal
 
 pub returns : goal.returns
 returns c = (
-  c.add-pattern.ensures ∙ ap patterned c.in-ok-unpack.ensures.1,
-  subst (λ (xs : List ℕ). T (are_bits xs)) (sym c.add-pattern.ensures) (pattern-laws.bits c.unpack.new.out),
+  c.add_pattern.ensures ∙ ap patterned c.in_ok-unpack.ensures.1,
+  subst (λ (xs : List ℕ). T (are_bits xs)) (sym c.add_pattern.ensures) (pattern-laws.bits c.unpack.new.out),
 )

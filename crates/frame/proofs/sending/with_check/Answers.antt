@@ -10,6 +10,6 @@ pub returns : goal.returns
 returns c =
     let high = c.crc16-check.result / 256 in
     let low = c.crc16-check.result % 256 in
-    behind c.copy-from-slice.new.self high low c.copy-from-slice.ensures.len
-    ∙ ap (λ (p : List ℕ). p ++ high ∷ low ∷ []) c.copy-from-slice.ensures.after
+    behind c.copy_from_slice.new.self high low c.copy_from_slice.ensures.len
+    ∙ ap (λ (p : List ℕ). p ++ high ∷ low ∷ []) c.copy_from_slice.ensures.after
     ∙ ap (λ (n : ℕ). c.args.payload.now ++ n / 256 ∷ n % 256 ∷ []) c.crc16-check.ensures

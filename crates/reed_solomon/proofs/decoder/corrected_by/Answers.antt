@@ -6,8 +6,8 @@ use Rattle.rs_decoding.proofs.Bytes.{bytes-all}
 use Rattle.rs_decoding.proofs.Correct.{repair-right, roots-within}
 use Rattle.reed_solomon.proofs.decoder.corrected_by.Goals as goal
 
-pub returns-in-default : goal.returns-in-default
-returns-in-default c =
+pub returns-in_default : goal.returns-in_default
+returns-in_default c =
     λ code t near.
     let l : List ℕ = c.args.coefficients.now in
     let k : ℕ = c.args.degree in
@@ -15,7 +15,7 @@ returns-in-default c =
     let few : length (roots_of (values_of l (locators 255)) (locators 255)) ≤ 16 = roots-within l k c.told-coefficients (bytes-all l (λ i h. c.fits-coefficients i)) (omega arith) in
     let same : length (roots_of c.values-values.result (locators 255)) ≡ length (roots_of (values_of l (locators 255)) (locators 255)) =
     ap (λ (vs : List ℕ). length (roots_of vs (locators 255))) c.values-values.ensures in
-    omega (arith, c.in-default.ensures)
+    omega (arith, c.in_default.ensures)
 
 pub returns : goal.returns
 returns c =

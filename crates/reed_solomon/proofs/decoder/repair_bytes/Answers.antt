@@ -5,10 +5,10 @@ use Rattle.rs_theory.specs.Code.{is_codeword}
 use Rattle.rs_theory.proofs.Codewords.{nearest}
 use Rattle.reed_solomon.proofs.decoder.repair_bytes.Goals as goal
 
-pub returns-then-all-zero : goal.returns-then-all-zero
-returns-then-all-zero c =
+pub returns-then-all_zero : goal.returns-then-all_zero
+returns-then-all_zero c =
     let w : List ℕ = c.args.bytes.now in
-    let t : T (is_codeword w) = c.residue-rest.ensures.codeword_at_zero c.if-all-zero.ensures in
+    let t : T (is_codeword w) = c.residue-rest.ensures.codeword_at_zero c.if-all_zero.ensures in
     let none : distance w w ≡ 0 = distance_self w in
     record {
       right = (t, none, zero-le);
@@ -18,4 +18,4 @@ returns-then-all-zero c =
     }
 
 pub candidate-requires : goal.candidate-requires
-candidate-requires c = λ j h. c.values-at-powers-s.ensures j h ∙ c.residue-rest.ensures.values j h
+candidate-requires c = λ j h. c.values_at_powers-s.ensures j h ∙ c.residue-rest.ensures.values j h

@@ -14,7 +14,7 @@ loop-j-preserved c =
           (λ k h. let ne : k ≢ j = omega arith in rw get_or-set_other (c.loop-j.invariant.1 k h))
           (rw get_or-set_same
           (ap (λ (m : ℕ). bit_xor m c.args.b)
-          (c.mul.ensures ∙ ap₂ product (c.loop-j.invariant.2 j (le_refl j)) (c.power-of-two.ensures ∙ ap (power 2) (add-one j))))),
+          (c.mul.ensures ∙ ap₂ product (c.loop-j.invariant.2 j (le_refl j)) (c.power_of_two.ensures ∙ ap (power 2) (add-one j))))),
       λ k h. let ne : k ≢ j = omega arith in rw get_or-set_other (c.loop-j.invariant.2 k (omega arith)),
     )
 

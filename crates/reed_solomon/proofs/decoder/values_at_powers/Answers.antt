@@ -22,9 +22,9 @@ loop-b-preserved c =
     let w : List ℕ = c.args.rest.now in
     let i : ℕ = c.loop-b.b-index in
     let h : i < length w = omega arith in (
-      c.take-in.array_long,
+      c.take_in.array_long,
       λ j g.
-          ap (λ (n : ℕ). value_from (power 2 (suc j)) n (drop (i + 1) w)) (c.take-in.ensures j g)
+          ap (λ (n : ℕ). value_from (power 2 (suc j)) n (drop (i + 1) w)) (c.take_in.ensures j g)
           ∙ sym (step (power 2 (suc j)) (get_or c.loop-b.s j 0) i w h)
           ∙ c.loop-b.invariant.1 j g,
     )

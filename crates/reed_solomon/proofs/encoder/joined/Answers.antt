@@ -12,10 +12,10 @@ join x z y m r h k e f =
     let back : drop 32 (drop 223 (x ++ z)) ≡ [] = ap (drop 32) (drop_at x z 223 h) ∙ drop_all 32 z (omega arith) in
     ap₂ ◌++◌ (take_at x z 223 h ∙ e) (ap₂ ◌++◌ f back ∙ append-nil r)
 
-pub slice-bounds-bytes-end-2 : goal.slice-bounds-bytes-end-2
-slice-bounds-bytes-end-2 c = long c.copy-from-slice.new.self _ c.copy-from-slice.ensures.len refl
+pub slice_bounds-bytes-end-2 : goal.slice_bounds-bytes-end-2
+slice_bounds-bytes-end-2 c = long c.copy_from_slice.new.self _ c.copy_from_slice.ensures.len refl
 
 pub returns : goal.returns
 returns c =
-    join c.copy-from-slice.new.self _ c.copy-from-slice-2.new.self _ _ c.copy-from-slice.ensures.len refl
-    c.copy-from-slice.ensures.after c.copy-from-slice-2.ensures.after
+    join c.copy_from_slice.new.self _ c.copy_from_slice-2.new.self _ _ c.copy_from_slice.ensures.len refl
+    c.copy_from_slice.ensures.after c.copy_from_slice-2.ensures.after

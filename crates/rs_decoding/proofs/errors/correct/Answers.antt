@@ -23,12 +23,12 @@ loop-p-preserved c =
     × (take (p + 1) v ++ corrected (drop (p + 1) vs) ys s (drop (p + 1) v) (drop (p + 1) (locators 255)) ≡ corrected vs ys s c.args.word.now (locators 255)) in
     elim c.if-values-p-eq0.branch [
       | then-values-p-eq0 w ↦
-          let r : ℕ = bit_xor (get_or ws p 0) w.error-value.result in
+          let r : ℕ = bit_xor (get_or ws p 0) w.error_value.result in
           subst P (sym w.word-is) (
             length-set ws p r ∙ c.loop-p.invariant.0,
             corrected-hit p r vs ys s ws (locators 255) _ h f g w.if-values-p-eq0.true
-                (xor_is (get_or ws p 0) w.error-value.result
-                ∙ ap (λ (n : ℕ). get_or ws p 0 ⊕ n) (w.error-value.ensures ∙ ap (λ (x : ℕ). value_at x ys s) (locator-is p w.power-of-two.result c.loop-p-test.true w.power-of-two.ensures)))
+                (xor_is (get_or ws p 0) w.error_value.result
+                ∙ ap (λ (n : ℕ). get_or ws p 0 ⊕ n) (w.error_value.ensures ∙ ap (λ (x : ℕ). value_at x ys s) (locator-is p w.power_of_two.result c.loop-p-test.true w.power_of_two.ensures)))
                 c.loop-p.invariant.1,
           )
       | else-values-p-eq0 w ↦

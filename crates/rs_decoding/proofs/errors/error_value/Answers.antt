@@ -20,9 +20,9 @@ loop-k-preserved c =
     elim c.if-y-x.branch [
       | then-y-x w ↦
           subst₂ P (sym w.t-is) (sym w.divisor-is) (
-            w.peel-off.array_long,
-            peel-others-step x k ys c.loop-k.t w.peel-off.new.t _ h w.if-y-x.true w.peel-off.ensures c.loop-k.invariant.1,
-            others-step x k x c.loop-k.divisor w.multiply-sum-divisor.result _ ys h w.if-y-x.true w.multiply-sum-divisor.ensures c.loop-k.invariant.2,
+            w.peel_off.array_long,
+            peel-others-step x k ys c.loop-k.t w.peel_off.new.t _ h w.if-y-x.true w.peel_off.ensures c.loop-k.invariant.1,
+            others-step x k x c.loop-k.divisor w.multiply_sum-divisor.result _ ys h w.if-y-x.true w.multiply_sum-divisor.ensures c.loop-k.invariant.2,
           )
       | else-y-x w ↦
           subst₂ P (sym w.t-is) (sym w.divisor-is) (

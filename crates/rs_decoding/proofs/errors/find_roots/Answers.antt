@@ -24,10 +24,10 @@ loop-p-preserved c =
     elim c.if-values-p-eq0.branch [
       | then-values-p-eq0+else-count-eq16 w ↦
           subst₂ P (sym w.count-is) (sym w.found-is) (
-            length-set c.loop-p.found c.loop-p.count w.power-of-two.result ∙ c.loop-p.invariant.0,
+            length-set c.loop-p.found c.loop-p.count w.power_of_two.result ∙ c.loop-p.invariant.0,
             omega arith,
-            roots-hit p c.loop-p.count w.power-of-two.result c.loop-p.found vs (locators 255) _ h g (omega arith) w.if-values-p-eq0.true
-                (locator-is p w.power-of-two.result c.loop-p-test.true w.power-of-two.ensures) c.loop-p.invariant.2,
+            roots-hit p c.loop-p.count w.power_of_two.result c.loop-p.found vs (locators 255) _ h g (omega arith) w.if-values-p-eq0.true
+                (locator-is p w.power_of_two.result c.loop-p-test.true w.power_of_two.ensures) c.loop-p.invariant.2,
           )
       | else-values-p-eq0 w ↦
           subst₂ P (sym w.count-is) (sym w.found-is) (

@@ -5,8 +5,8 @@ use Rattle.rs_decoding.proofs.errors.peel_off.Goals as goal
 pub loop-j-preserved : goal.loop-j-preserved
 loop-j-preserved c =
     let l : c.args.count < length c.loop-j.t = omega arith in (
-      length-set c.loop-j.t c.loop-j.j c.multiply-add.result ∙ c.loop-j.invariant.0,
-      peel-step c.args.count c.loop-j.j c.args.y c.multiply-add.result c.loop-j.t _ c.loop-j-test.true l c.multiply-add.ensures c.loop-j.invariant.1,
+      length-set c.loop-j.t c.loop-j.j c.multiply_add.result ∙ c.loop-j.invariant.0,
+      peel-step c.args.count c.loop-j.j c.args.y c.multiply_add.result c.loop-j.t _ c.loop-j-test.true l c.multiply_add.ensures c.loop-j.invariant.1,
     )
 
 pub returns : goal.returns

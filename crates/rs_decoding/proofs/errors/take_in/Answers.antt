@@ -8,12 +8,12 @@ loop-p-preserved c =
     let p : ℕ = c.loop-p.p in
     let n : length c.loop-p.values ≡ 255 = c.loop-p.invariant.0 in
     let lt : p < length c.loop-p.values = omega arith in (
-      length-set c.loop-p.values p c.multiply-add.result ∙ n,
+      length-set c.loop-p.values p c.multiply_add.result ∙ n,
       below_more _ _
           (λ k h. let ne : k ≢ p = omega arith in rw get_or-set_other (c.loop-p.invariant.1 k h))
           (rw get_or-set_same
-          (c.multiply-add.ensures
-          ∙ ap₂ (λ (x y : ℕ). c.args.a ⊕ (x ⊙ y)) (locator-is p c.power-of-two.result (omega arith) c.power-of-two.ensures) (c.loop-p.invariant.2 p (le_refl p)))),
+          (c.multiply_add.ensures
+          ∙ ap₂ (λ (x y : ℕ). c.args.a ⊕ (x ⊙ y)) (locator-is p c.power_of_two.result (omega arith) c.power_of_two.ensures) (c.loop-p.invariant.2 p (le_refl p)))),
       λ k h. let ne : k ≢ p = omega arith in rw get_or-set_other (c.loop-p.invariant.2 k (omega arith)),
     )
 

@@ -16,9 +16,9 @@ loop-j-preserved c =
     let j : ℕ = c.loop-j.j - 1 in
     let h : j < length l = omega arith in
     let e : c.loop-j.j ≡ j + 1 = omega arith in (
-      c.take-in.array_long,
+      c.take_in.array_long,
       λ p g.
-          c.take-in.ensures p g
+          c.take_in.ensures p g
           ∙ evaluate-step l (get_or (locators 255) p 0) j (get_or c.loop-j.out p 0) h
           (c.loop-j.invariant.1 p g ∙ ap (λ (n : ℕ). evaluate (drop n l) (get_or (locators 255) p 0)) e),
     )

@@ -13,7 +13,7 @@ pub loop-j-preserved : goal.loop-j-preserved
 loop-j-preserved c =
     let h : c.loop-j.j < length c.args.vector.now = omega arith in
     let g : c.args.i + c.loop-j.j < length c.args.s.now = omega arith in
-    ap (λ (n : ℕ). n ⊕ dot (drop (c.loop-j.j + 1) c.args.vector.now) (drop (c.args.i + (c.loop-j.j + 1)) c.args.s.now)) c.multiply-add-sum.ensures
+    ap (λ (n : ℕ). n ⊕ dot (drop (c.loop-j.j + 1) c.args.vector.now) (drop (c.args.i + (c.loop-j.j + 1)) c.args.s.now)) c.multiply_add-sum.ensures
     ∙ dot-step c.loop-j.sum c.args.i c.loop-j.j c.args.vector.now c.args.s.now _ h g c.loop-j.invariant
 
 pub returns : goal.returns

@@ -19,11 +19,11 @@ loop-k-init c = (refl, refl, weight-none 16, pivots-none c.args.rows 16 c.args.s
 pub loop-k-preserved : goal.loop-k-preserved
 loop-k-preserved c =
     let i : ℕ = c.reduce-i.result in
-    let d : ℕ = c.dot-product.result in
+    let d : ℕ = c.dot_product.result in
     let u : List ℕ = c.reduce-i.new.vector in
     let h : i < c.args.rows = omega arith in
     let more : Pivots c.args.rows c.args.s.now (set c.loop-k.heads i d) (set c.loop-k.vectors i u) × (weight (set c.loop-k.heads i d) ≡ weight c.loop-k.heads + 1) =
-    pivots-more c.args.rows i d c.args.s.now c.loop-k.heads c.loop-k.vectors u h (omega arith) (omega arith) c.reduce-i.array_long c.loop-k.invariant.3 c.reduce-i.ensures c.dot-product.ensures in (
+    pivots-more c.args.rows i d c.args.s.now c.loop-k.heads c.loop-k.vectors u h (omega arith) (omega arith) c.reduce-i.array_long c.loop-k.invariant.3 c.reduce-i.ensures c.dot_product.ensures in (
       length-set c.loop-k.heads i d ∙ c.loop-k.invariant.0,
       length-set c.loop-k.vectors i u ∙ c.loop-k.invariant.1,
       more.1 ∙ ap (λ (n : ℕ). n + 1) c.loop-k.invariant.2,

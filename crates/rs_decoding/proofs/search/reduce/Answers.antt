@@ -14,11 +14,11 @@ loop-i-preserved c =
           let v : List ℕ = get_or c.args.vectors.now i [] in
           let lv : length v ≡ 17 = c.requires.pivots.wide i c.loop-i-test.true w.if-heads-i-eq0.false in
           subst P (sym w.vector-is) (
-            w.add-multiple.array_long,
-            clear-by c.args.rows i s heads c.args.vectors.now c.loop-i.vector v w.add-multiple.new.vector c.dot-product-d.result w.quotient.result
-                c.loop-i-test.true c.requires.pivots refl (c.loop-i.invariant.0 ∙ sym lv) w.if-heads-i-eq0.false (c.fits-heads i) c.dot-product-d.type-inv
-                c.dot-product-d.ensures w.quotient.ensures w.add-multiple.ensures c.loop-i.invariant.1,
+            w.add_multiple.array_long,
+            clear-by c.args.rows i s heads c.args.vectors.now c.loop-i.vector v w.add_multiple.new.vector c.dot_product-d.result w.quotient.result
+                c.loop-i-test.true c.requires.pivots refl (c.loop-i.invariant.0 ∙ sym lv) w.if-heads-i-eq0.false (c.fits-heads i) c.dot_product-d.type_inv
+                c.dot_product-d.ensures w.quotient.ensures w.add_multiple.ensures c.loop-i.invariant.1,
           )
       | else-d-ne0 w ↦
-          subst P (sym w.vector-is) (c.loop-i.invariant.0, clear-more i s heads c.loop-i.vector c.loop-i.invariant.1 (sym c.dot-product-d.ensures ∙ w.if-d-ne0.false))
+          subst P (sym w.vector-is) (c.loop-i.invariant.0, clear-more i s heads c.loop-i.vector c.loop-i.invariant.1 (sym c.dot_product-d.ensures ∙ w.if-d-ne0.false))
     ]

@@ -16,10 +16,10 @@ loop-x-preserved c =
       e.2,
     )
 
-pub returns-in-err-v : goal.returns-in-err-v
-returns-in-err-v c =
-    let p = err_from_is_err_and c.from-residual.result c.from-residual.ensures.1 in
-    let e = c.in-err-v.ensures in
+pub returns-in_err-v : goal.returns-in_err-v
+returns-in_err-v c =
+    let p = err_from_is_err_and c.from_residual.result c.from_residual.ensures.1 in
+    let e = c.in_err-v.ensures in
     rw (p.1, p.2) (refused-at c.args.text.now c.loop-x.x-index c.loop-x.v c.args.most (omega arith) c.loop-x.invariant.0 c.loop-x.invariant.1 e.0, e.1)
 
 pub returns : goal.returns

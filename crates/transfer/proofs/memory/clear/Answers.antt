@@ -7,7 +7,7 @@ pub loop-slot-preserved : goal.loop-slot-preserved
 loop-slot-preserved c =
     let m = c.loop-slot.memory in
     let i = c.loop-slot.slot in
-    let e = c.write-count.ensures in (
+    let e = c.write_count.ensures in (
       ap length e ∙ length-set m (215 * i) 0 ∙ c.loop-slot.invariant.0,
       below_more _ _
           (λ k h. ap (λ (xs : List ℕ). get_or xs (215 * k) 0) e ∙ get_or-set_other m (215 * i) (215 * k) 0 0 (λ q. let z : ⊥ = omega arith in absurd z) ∙ c.loop-slot.invariant.1 k h)

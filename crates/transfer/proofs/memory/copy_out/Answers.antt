@@ -11,8 +11,8 @@ unfolding joined
 loop-slot-init c =
     (sym (ap (λ (xs : List ℕ). length xs) (take-nil c.args.limit)), sym (ap (λ (xs : List ℕ). xs ++ c.args.out.now) (take-nil c.args.limit)), c.requires.within)
 
-pub copy-part-at-requires : goal.copy-part-at-requires
-copy-part-at-requires c =
+pub copy_part-at-requires : goal.copy_part-at-requires
+copy_part-at-requires c =
     record {
       long = c.requires.long;
       inside = let h = c.requires.few in let t = c.loop-slot-test.true in omega arith;
@@ -30,11 +30,11 @@ loop-slot-preserved c =
     let bs = bytes_in m i in
     let e = c.loop-slot.invariant.0 in
     let more : joined (i + 1) (slots_of m) ≡ js ++ bs = joined-slot i m (let h = c.requires.few in let t = c.loop-slot-test.true in omega arith) in (
-      c.copy-part-at.ensures.next ∙ copied-count limit js bs at e ∙ ap (λ (xs : List ℕ). length (take limit xs)) (sym more),
-      c.copy-part-at.ensures.copied ∙ copied_more limit js bs c.args.out.now c.loop-slot.out at e c.loop-slot.invariant.1 ∙
+      c.copy_part-at.ensures.next ∙ copied-count limit js bs at e ∙ ap (λ (xs : List ℕ). length (take limit xs)) (sym more),
+      c.copy_part-at.ensures.copied ∙ copied_more limit js bs c.args.out.now c.loop-slot.out at e c.loop-slot.invariant.1 ∙
           ap (λ (xs : List ℕ). take limit xs ++ drop (at + length (take (limit - at) bs)) c.args.out.now) (sym more) ∙
-          ap (λ (k : ℕ). take limit (joined (i + 1) (slots_of m)) ++ drop k c.args.out.now) (sym c.copy-part-at.ensures.next),
-      (let k = c.copy-part-at.auto.out in let w = c.loop-slot.invariant.2 in omega arith),
+          ap (λ (k : ℕ). take limit (joined (i + 1) (slots_of m)) ++ drop k c.args.out.now) (sym c.copy_part-at.ensures.next),
+      (let k = c.copy_part-at.auto.out in let w = c.loop-slot.invariant.2 in omega arith),
     )
 
 pub returns : goal.returns

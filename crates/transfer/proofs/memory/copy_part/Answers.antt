@@ -5,10 +5,10 @@ use Rattle.transfer.proofs.Places.{put-over}
 use Rattle.transfer.proofs.Copying.{slot-stretch}
 use Rattle.transfer.proofs.memory.copy_part.Goals as goal
 
-count-is : (c : goal.After-slice-known-2·1) → c.min-count.result ≡ min (min (get_or c.args.memory.now (215 * c.args.slot) 0 - 1) 214) (c.args.limit - c.args.at)
+count-is : (c : goal.After-slice_known-2-1) → c.min-count.result ≡ min (min (get_or c.args.memory.now (215 * c.args.slot) 0 - 1) 214) (c.args.limit - c.args.at)
 count-is c =
-    let a : c.saturating-sub.result ≡ get_or c.args.memory.now (215 * c.args.slot) 0 - 1 = c.saturating-sub.ensures in
-    let b : c.from.result ≡ c.saturating-sub.result = c.from.ensures in
+    let a : c.saturating_sub.result ≡ get_or c.args.memory.now (215 * c.args.slot) 0 - 1 = c.saturating_sub.ensures in
+    let b : c.from.result ≡ c.saturating_sub.result = c.from.ensures in
     let d : c.min.result ≡ min c.from.result 214 = c.min.ensures in
     let e : c.min-count.result ≡ min c.min.result (c.args.limit - c.args.at) = c.min-count.ensures in
     omega arith
@@ -29,6 +29,6 @@ returns c =
     record {
       next = ap (λ (k : ℕ). c.args.at + k) z;
       copied =
-          put-over c.args.at (c.args.at + n - c.args.at) c.args.out.now c.copy-from-slice.new.self (take (c.args.limit - c.args.at) (bytes_in m i))
-          (c.copy-from-slice.ensures.after ∙ s) (omega arith);
+          put-over c.args.at (c.args.at + n - c.args.at) c.args.out.now c.copy_from_slice.new.self (take (c.args.limit - c.args.at) (bytes_in m i))
+          (c.copy_from_slice.ensures.after ∙ s) (omega arith);
     }

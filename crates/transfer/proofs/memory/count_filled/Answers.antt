@@ -6,9 +6,9 @@ use Rattle.transfer.proofs.memory.count_filled.Goals as goal
 
 pub loop-place-preserved : goal.loop-place-preserved
 loop-place-preserved c =
-    let m = filled_more c.args.memory.now c.loop-place.place c.one-if-filled-count.result c.loop-place-test.true c.one-if-filled-count.ensures.value in
+    let m = filled_more c.args.memory.now c.loop-place.place c.one_if_filled-count.result c.loop-place-test.true c.one_if_filled-count.ensures.value in
     let i = c.loop-place.invariant.0 in
-    let b = c.one-if-filled-count.ensures.bound in
+    let b = c.one_if_filled-count.ensures.bound in
     (omega arith, omega arith)
 
 pub returns : goal.returns

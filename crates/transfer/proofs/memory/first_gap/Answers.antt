@@ -3,12 +3,12 @@ use Rattle.std.proofs.Common.{◌≡◌, ◌*◌, ◌<◌, get_or, sym, ◌∙�
 use Rattle.transfer.proofs.Slotted.{gap-found}
 use Rattle.transfer.proofs.memory.first_gap.Goals as goal
 
-pub returns-then-is-empty : goal.returns-then-is-empty
-returns-then-is-empty c =
+pub returns-then-is_empty : goal.returns-then-is_empty
+returns-then-is_empty c =
     record {
       within = omega arith;
       first = gap-found c.args.memory.now c.args.wanted c.loop-slot.slot c.requires.1 (omega arith) c.loop-slot.invariant
-          (λ l. eqb-true (get_or c.args.memory.now (215 * c.loop-slot.slot) 0) 0 (sym c.is-empty.ensures ∙ c.if-is-empty.true));
+          (λ l. eqb-true (get_or c.args.memory.now (215 * c.loop-slot.slot) 0) 0 (sym c.is_empty.ensures ∙ c.if-is_empty.true));
     }
 
 pub returns : goal.returns

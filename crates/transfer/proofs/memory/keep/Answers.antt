@@ -6,5 +6,5 @@ use Rattle.transfer.proofs.memory.keep.Goals as goal
 
 pub returns : goal.returns
 returns c =
-    ap slots_of (c.write-count.ensures ∙ ap (λ (m : List ℕ). set m (215 * c.args.slot) (length c.args.body.now + 1)) c.write-body.ensures) ∙
+    ap slots_of (c.write_count.ensures ∙ ap (λ (m : List ℕ). set m (215 * c.args.slot) (length c.args.body.now + 1)) c.write_body.ensures) ∙
     kept c.args.slot c.args.body.now c.args.memory.now c.requires.1.0 c.requires.1.1 c.requires.0

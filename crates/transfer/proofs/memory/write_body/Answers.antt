@@ -6,4 +6,4 @@ use Rattle.transfer.proofs.memory.write_body.Goals as goal
 pub returns : goal.returns
 returns c =
     put-over (215 * c.args.slot + 1) (215 * c.args.slot + 1 + length c.args.body.now - (215 * c.args.slot + 1)) c.args.memory.now
-    c.copy-from-slice.new.self c.args.body.now c.copy-from-slice.ensures.after (omega arith)
+    c.copy_from_slice.new.self c.args.body.now c.copy_from_slice.ensures.after (omega arith)

@@ -8,18 +8,18 @@ use Rattle.rehearsal.proofs.table.Rehearsal.go_on.Goals as goal
 pub returns : goal.returns
 returns c =
     record {
-      rehearsed = goes_on (table_of c.args.self.now) after c.play-on-self.ensures.played;
-      told = c.play-on-self.ensures.told;
-      budget = c.play-on-self.ensures.budget;
-      stopped = c.play-on-self.ensures.stopped;
+      rehearsed = goes_on (table_of c.args.self.now) after c.play_on-self.ensures.played;
+      told = c.play_on-self.ensures.told;
+      budget = c.play_on-self.ensures.budget;
+      stopped = c.play_on-self.ensures.stopped;
     }
   where
     after : Table
     after =
         record {
-          sender = sender_in c.play-on-self.new.ship;
-          receiver = receiver_in c.play-on-self.new.station;
-          line = c.play-on-self.new.line;
-          rounds = c.play-on-self.result.rounds;
-          first = c.play-on-self.result.complete;
+          sender = sender_in c.play_on-self.new.ship;
+          receiver = receiver_in c.play_on-self.new.station;
+          line = c.play_on-self.new.line;
+          rounds = c.play_on-self.result.rounds;
+          first = c.play_on-self.result.complete;
         }

@@ -36,9 +36,9 @@ returns-else-file-self-2 c =
     let s = c.args.self.now in
     of-another c.args.payload.now (sender_at s.file (vec_items s.content) s.place s.done) (λ e. c.if-file-self-2.false (sym m.1 ∙ e))
 
-pub returns-in-default : goal.returns-in-default
-returns-in-default c =
+pub returns-in_default : goal.returns-in_default
+returns-in_default c =
     let s = c.args.self.now in
     of-no-kind c.args.payload.now (sender_at s.file (vec_items s.content) s.place s.done)
-    (not-ask c.args.payload.now c.read.result c.read.ensures c.in-default.not-Ask)
-    (not_done c.args.payload.now c.read.result c.read.ensures c.in-default.not-Done)
+    (not-ask c.args.payload.now c.read.result c.read.ensures c.in_default.not-Ask)
+    (not_done c.args.payload.now c.read.result c.read.ensures c.in_default.not-Done)

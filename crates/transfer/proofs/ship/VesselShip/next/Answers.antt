@@ -10,7 +10,7 @@ returns-then-self-parts c =
     let l = s.content.ok.0 in
     let h : s.place < (length s.content.items + 213) / 214 = omega arith in
     let t = sender_at s.file (vec_items s.content) s.place s.done in
-    record { said = c.say-part.ensures ∙ sym (says-part t h); after = sym (after-part t h) }
+    record { said = c.say_part.ensures ∙ sym (says-part t h); after = sym (after-part t h) }
 
 pub returns-else-self-parts : goal.returns-else-self-parts
 returns-else-self-parts c =
@@ -18,4 +18,4 @@ returns-else-self-parts c =
     let l = s.content.ok.0 in
     let h : (length s.content.items + 213) / 214 ≤ s.place = omega arith in
     let t = sender_at s.file (vec_items s.content) s.place s.done in
-    record { said = c.say-end.ensures ∙ sym (says-end t h); after = sym (after-end t h) }
+    record { said = c.say_end.ensures ∙ sym (says-end t h); after = sym (after-end t h) }

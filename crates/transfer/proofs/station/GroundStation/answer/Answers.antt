@@ -12,7 +12,7 @@ returns-then-gap-wanted c =
     let v = receiver_of s.file (slots_of s.memory.now) s.size in
     let h : 0 < s.size = let o = c.if-self-eq0.false in omega arith in
     let w : c.wanted-wanted.result ≡ wanted v = c.wanted-wanted.ensures in
-    let g : c.first-gap-gap.result ≡ first_gap v = c.first-gap-gap.ensures.first ∙ ap (λ (k : ℕ). first_missing 0 k (slots_of s.memory.now)) w in
+    let g : c.first_gap-gap.result ≡ first_gap v = c.first_gap-gap.ensures.first ∙ ap (λ (k : ℕ). first_missing 0 k (slots_of s.memory.now)) w in
     record {
       there = lt-true 0 s.size h;
       answer = λ t. c.build.ensures ∙ says-done v h (sym g ∙ c.if-gap-wanted.true ∙ w);
@@ -25,9 +25,9 @@ returns-else-gap-wanted c =
     let v = receiver_of s.file (slots_of s.memory.now) s.size in
     let h : 0 < s.size = let o = c.if-self-eq0.false in omega arith in
     let w : c.wanted-wanted.result ≡ wanted v = c.wanted-wanted.ensures in
-    let g : c.first-gap-gap.result ≡ first_gap v = c.first-gap-gap.ensures.first ∙ ap (λ (k : ℕ). first_missing 0 k (slots_of s.memory.now)) w in
+    let g : c.first_gap-gap.result ≡ first_gap v = c.first_gap-gap.ensures.first ∙ ap (λ (k : ℕ). first_missing 0 k (slots_of s.memory.now)) w in
     record {
       there = lt-true 0 s.size h;
-      answer = λ t. c.build-else-gap-wanted.ensures ∙ says-ask v c.first-gap-gap.result g (λ q. c.if-gap-wanted.false (q ∙ sym w));
+      answer = λ t. c.build-else-gap-wanted.ensures ∙ says-ask v c.first_gap-gap.result g (λ q. c.if-gap-wanted.false (q ∙ sym w));
       kept = λ e. absurd (clash (sym e));
     }

@@ -19,11 +19,11 @@ returns-then-slot-lt-SLOTS c =
     let f = m.1 ∙ c.if-file-self.true in
     let e = m.2 ∙ sym c.from-slot.ensures in
     record {
-      sound = ((let k = c.keep-new.auto.memory in let l = c.requires.0 in omega arith), c.requires.1);
+      sound = ((let k = c.keep_new.auto.memory in let l = c.requires.0 in omega arith), c.requires.1);
       heard = elim (cases_eq (get_or s.memory.now (215 * n) 0) 0) [
-        | inl o ↦ ap (λ (ss : List Slot). receiver_of s.file ss s.size) (c.keep-new.ensures.filled o) ∙
+        | inl o ↦ ap (λ (ss : List Slot). receiver_of s.file ss s.size) (c.keep_new.ensures.filled o) ∙
             part-kept p v n c.in-Part.body.now m.0 f e m.3 c.if-slot-lt-SLOTS.true (is-empty s.memory.now n c.if-slot-lt-SLOTS.true o)
-        | inr o ↦ ap (λ (xs : List ℕ). receiver_of s.file (slots_of xs) s.size) (c.keep-new.ensures.kept o) ∙
+        | inr o ↦ ap (λ (xs : List ℕ). receiver_of s.file (slots_of xs) s.size) (c.keep_new.ensures.kept o) ∙
             part-full p v n m.0 e (is-full s.memory.now n c.if-slot-lt-SLOTS.true o)
       ];
     }
@@ -63,12 +63,12 @@ returns-else-file-self-2 c =
       ];
     }
 
-pub returns-in-default : goal.returns-in-default
-returns-in-default c =
+pub returns-in_default : goal.returns-in_default
+returns-in_default c =
     let s = c.args.self.now in
     record {
       sound = c.requires;
       heard = of-no-kind c.args.payload.now (receiver_of s.file (slots_of s.memory.now) s.size)
-          (not-part c.args.payload.now c.read.result c.read.ensures c.in-default.not-Part)
-          (not_end c.args.payload.now c.read.result c.read.ensures c.in-default.not-End);
+          (not-part c.args.payload.now c.read.result c.read.ensures c.in_default.not-Part)
+          (not_end c.args.payload.now c.read.result c.read.ensures c.in_default.not-End);
     }
