@@ -33,7 +33,7 @@ loop-i-preserved c =
     let ex = c.hard.ensures ∙ hard-at r (2 * i) (omega arith) in
     let ey = c.hard-in-loop-i.ensures ∙ hard-at r (2 * i + 1) (omega arith) in (
       c.swap.ensures.x_after ∙ costs-step (map hard r) i c.loop-i.old c.column.new.new c.hard.result c.hard-in-loop-i.result (omega (arith, l)) ex ey c.loop-i.invariant.0 c.column.ensures.costs,
-      c.swap.array-long2,
+      c.swap.array_long2,
       decided-step (map hard r) i c.loop-i.old c.column.new.decisions c.hard.result c.hard-in-loop-i.result c.loop-i.decisions (omega arith) ex ey c.loop-i.invariant.0 c.column.ensures.chosen c.loop-i.invariant.2,
     )
 

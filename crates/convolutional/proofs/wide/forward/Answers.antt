@@ -31,7 +31,7 @@ loop-i-preserved c =
     let hx : 2 * i < length cs = omega arith in
     let hy : 2 * i + 1 < length cs = omega arith in (
       c.swap.ensures.x_after ∙ costs-step cs i c.loop-i.old c.column.new.new _ _ hy (get_or_default cs (2 * i) _ nothing hx) (get_or_default cs (2 * i + 1) _ nothing hy) c.loop-i.invariant.0 c.column.ensures.costs,
-      c.swap.array-long2,
+      c.swap.array_long2,
       decided-step cs i c.loop-i.old c.column.new.decisions _ _ c.loop-i.decisions (omega arith) (get_or_default cs (2 * i) _ nothing hx) (get_or_default cs (2 * i + 1) _ nothing hy) c.loop-i.invariant.0 c.column.ensures.chosen c.loop-i.invariant.2,
     )
 
