@@ -8,6 +8,7 @@ use bits::Refusal;
 pub use files::{read_file, write_file};
 use std::alloc::AllocError;
 use std::io::{BufRead, BufWriter, Write};
+use std::process::ExitCode;
 use std::{env, io};
 use text::{Line, Taken};
 
@@ -119,7 +120,7 @@ fn reason(refusal: Refusal) -> &'static str {
 }
 
 // Says how a program ended: a refusal as its last line, with the reason on standard error; a failure on standard error alone.
-// The result is handed on, so that a `main` that returns it ends with status 1 where it is an error.
+// The result is handed on.
 pub fn end(rt: &HostRuntime, res: Result<(), Failure>) -> Result<(), Failure> {
     match &res {
         Ok(()) => {}
@@ -133,6 +134,14 @@ pub fn end(rt: &HostRuntime, res: Result<(), Failure>) -> Result<(), Failure> {
         }
     }
     res
+}
+
+// The status that a `main` ends with: 0, or 1 where there was an error, of which `end` has said all that is to be said.
+pub fn exit_code(res: Result<(), Failure>) -> ExitCode {
+    match res {
+        Ok(()) => ExitCode::SUCCESS,
+        Err(_) => ExitCode::FAILURE,
+    }
 }
 
 // The arguments of a program that is called with a file's number and a file's name. Another count of arguments, or another form of the number, is refused.

@@ -1,5 +1,6 @@
 // `rehearse N FILE SEED P ROUNDS`: plays ship, spoil, station and spoil again on one table, and prints what was heard each way, how many bits were wrong, and after how many rounds FILE was handed over.
 #![tactic(auto)]
+
 mod progress;
 
 use bits::Refusal;
@@ -7,6 +8,7 @@ use console::Failure;
 use link::TheLink;
 use progress::Progress;
 use rehearsal::{Rehearsal, Report};
+use std::process::ExitCode;
 
 const USAGE: &str =
     "usage: rehearse N FILE SEED P ROUNDS, N from 0 to 255, FILE of at most 214,000 bytes, SEED and ROUNDS from 0 to 18446744073709551615, P from 0 to 65536";
@@ -93,6 +95,6 @@ fn run(rt: &HostRuntime) -> Result<(), Failure> {
     Ok(())
 }
 
-fn main(rt: HostRuntime) -> Result<(), Failure> {
-    console::end(&rt, run(&rt))
+fn main(rt: HostRuntime) -> ExitCode {
+    console::exit_code(console::end(&rt, run(&rt)))
 }

@@ -1,9 +1,11 @@
 // `ship N FILE`: sends FILE under the number N. It prints a frame, and then for each line that it reads, a frame or an empty one, its next frame; `done` once the other side has it all.
 #![tactic(auto)]
+
 use console::Failure;
 use ends::{ship_first, ship_turn};
 use link::TheLink;
 use std::io::BufReader;
+use std::process::ExitCode;
 use text::Line;
 
 const USAGE: &str =
@@ -14,7 +16,7 @@ const MOST: u32 = 214000;
 
 // The first frame, and then a frame for each line, until the ship is done or the input ends.
 fn sail(rt: &HostRuntime, link: &mut TheLink) -> Result<(), Failure> {
-    let mut input = BufReader::new(rt.stdin());
+    let mut input = BufReader::new(rt.alloc(), rt.stdin())?;
     let mut line = Line::new();
     ship_first(link, &mut line);
     console::print_line(rt, &line)?;
@@ -48,6 +50,6 @@ fn run(rt: &HostRuntime) -> Result<(), Failure> {
     sail(rt, &mut link)
 }
 
-fn main(rt: HostRuntime) -> Result<(), Failure> {
-    console::end(&rt, run(&rt))
+fn main(rt: HostRuntime) -> ExitCode {
+    console::exit_code(console::end(&rt, run(&rt)))
 }

@@ -5,6 +5,7 @@
 use bits::Refusal;
 use console::Failure;
 use std::io::BufReader;
+use std::process::ExitCode;
 use text::{Line, Noise, spoil_line};
 
 const USAGE: &str =
@@ -26,7 +27,7 @@ fn run(rt: &HostRuntime) -> Result<(), Failure> {
         Err(e) => return Err(console::explain(rt, USAGE, e)),
     };
     let mut noise = Noise::new(seed);
-    let mut input = BufReader::new(rt.stdin());
+    let mut input = BufReader::new(rt.alloc(), rt.stdin())?;
     let mut line = Line::new();
     for n in 1..u64::MAX {
         if !console::next_line(&mut input, &mut line)? {
@@ -40,6 +41,6 @@ fn run(rt: &HostRuntime) -> Result<(), Failure> {
     Ok(())
 }
 
-fn main(rt: HostRuntime) -> Result<(), Failure> {
-    console::end(&rt, run(&rt))
+fn main(rt: HostRuntime) -> ExitCode {
+    console::exit_code(console::end(&rt, run(&rt)))
 }

@@ -1,11 +1,13 @@
 // `station N FILE`: receives the file of number N. For each line that it reads, a frame or an empty one, it prints its answer's frame, or an empty line while it has none; FILE is written once, when all of it is there.
 #![tactic(auto)]
+
 ghost use Rattle.transfer.specs.Stations.{Sound};
 
 use console::Failure;
 use ends::{hand_over, leave_once, station_answers, station_hears};
 use link::TheGround;
 use std::io::BufReader;
+use std::process::ExitCode;
 use text::Line;
 
 const USAGE: &str =
@@ -35,7 +37,7 @@ fn write_due(
 fn listen(rt: &HostRuntime, path: &str, ground: &mut TheGround) -> Result<(), Failure>
     requires { Sound ground.old }
 {
-    let mut input = BufReader::new(rt.stdin());
+    let mut input = BufReader::new(rt.alloc(), rt.stdin())?;
     let mut line = Line::new();
     let mut written = false;
     for n in 1..u64::MAX {
@@ -63,6 +65,6 @@ fn run(rt: &HostRuntime) -> Result<(), Failure> {
     listen(rt, path, &mut ground)
 }
 
-fn main(rt: HostRuntime) -> Result<(), Failure> {
-    console::end(&rt, run(&rt))
+fn main(rt: HostRuntime) -> ExitCode {
+    console::exit_code(console::end(&rt, run(&rt)))
 }
