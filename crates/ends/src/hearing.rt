@@ -4,13 +4,14 @@ ghost use Rattle.ends.specs.Hearing.{BitsHeard, LineHeard, RefusalKeeps, thing};
 
 use bits::Refusal;
 use frame::Radio;
+use link::TheLink;
 use text::{FRAME, Form, Line, read_line};
 
 // Whether a payload is heard in the bits that a line says, and the payload.
 fn hear_bits(bits: &[u8; FRAME], payload: &mut [u8; 221]) -> bool
     ensures { BitsHeard bits.now (thing result payload.new) }
 {
-    match <link::TheLink as Radio>::hear(bits, payload) {
+    match <TheLink as Radio>::hear(bits, payload) {
         1 => true,
         _ => false,
     }

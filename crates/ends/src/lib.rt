@@ -1,5 +1,6 @@
 // Both ends of the link between a line read and a line printed: what the programs do, one call each.
 #![tactic(auto)]
+
 ghost use Rattle.ends.specs.Laws.{EndsRight};
 
 mod hearing;

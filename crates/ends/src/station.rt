@@ -9,7 +9,7 @@ ghost use Rattle.ends.specs.Turns.{answer_line, due, StationHeard};
 use super::hearing::hear_line;
 use bits::Refusal;
 use frame::Radio;
-use link::TheGround;
+use link::{TheGround, TheLink};
 use text::{FRAME, Line};
 use transfer::sides::Station;
 use transfer::station::Leave;
@@ -45,7 +45,7 @@ pub fn station_answers(ground: &TheGround, line: &mut Line)
     let mut payload = [0; 221];
     let mut bits = [0; FRAME];
     if ground.answer(&mut payload) {
-        <link::TheLink as Radio>::send(&payload, &mut bits);
+        <TheLink as Radio>::send(&payload, &mut bits);
         line.write(&bits);
     } else {
         line.clear();

@@ -1,5 +1,6 @@
 // Rehearsals: a ship and a station on one table, with a noisy line between them that counts what goes on.
 #![tactic(auto)]
+
 ghost use Rattle.rehearsal.specs.Laws.{RehearsalRight};
 
 mod noisy;

@@ -9,6 +9,7 @@ ghost use Rattle.rehearsal.specs.Noisy.{Crosses, wrong_in, one, one_part, counte
 
 use driver::line::TracedLine;
 use frame::Radio;
+use link::TheLink;
 use text::{FRAME, Noise};
 
 // What was counted: parts that the ship said, payloads that the station heard, answers that it said, payloads that the ship heard, and
@@ -44,7 +45,7 @@ fn listen(bits: &[u8; FRAME]) -> Option<[u8; 221]>
     ensures { Hears bits.now (heard_of result) }
 {
     let mut payload = [0; 221];
-    match <link::TheLink as Radio>::hear(bits, &mut payload) {
+    match <TheLink as Radio>::hear(bits, &mut payload) {
         1 => Some(payload),
         _ => None,
     }
@@ -57,7 +58,7 @@ fn cross(p: u32, noise: &mut Noise, said: &[u8; 221]) -> Crossing
     ensures noise { noise.new.state ≡ behind 4092 noise.old.state }
 {
     let mut bits = [0; FRAME];
-    <link::TheLink as Radio>::send(said, &mut bits);
+    <TheLink as Radio>::send(said, &mut bits);
     match noise.spoil(p, &mut bits) {
         Some(changed) => Crossing {
             heard: listen(&bits),
