@@ -1,5 +1,6 @@
 // The link for C and for whatever calls C: every buffer comes with its length, and one of another length than it must have is answered with 4 and left as it was.
 #![tactic(auto)]
+
 mod codes;
 mod frames;
 

@@ -1,11 +1,11 @@
 -- Free distance: ways that part and meet again differ at ten bits or more. Assumes nothing.
-use Rattle.std.proofs.Common.{◌≡◌, ℕ, zero, suc, ◌+◌, ◌*◌, ◌<◌, ◌≤◌, T, List, [], ◌∷◌, ◌++◌, length, sym, refl, ap, ◌∙◌, subst, inl, inr, arith}
+use Rattle.std.proofs.Common.{◌≡◌, ℕ, ◌+◌, ◌<◌, ◌≤◌, T, List, [], ◌∷◌, ◌++◌, length, sym, refl, ap, ◌∙◌, subst, inl, inr, arith}
 use Rattle.std.proofs.lemmas.Bool.{cases_eq}
 use Rattle.std.proofs.lemmas.List.{append_cancel_right, length-append}
 use Rattle.bits.specs.Lists.{are_bits, zeros}
 use Rattle.bits.specs.Distance.{distance}
-use Rattle.conv_theory.specs.Code.{deep, next, run, spread, sent}
-use Rattle.conv_theory.specs.Statements.{Bits, WaysApart, InputsApart}
+use Rattle.conv_theory.specs.Code.{deep, next, run, spread}
+use Rattle.conv_theory.specs.Statements.{WaysApart, InputsApart}
 use Rattle.conv_theory.proofs.Basics.{first_bit, rest-bits, bits-append, bits-zeros}
 use Rattle.conv_theory.proofs.States.{next-below}
 use Rattle.conv_theory.proofs.Optimality.{comes_back}

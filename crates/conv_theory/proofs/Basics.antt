@@ -1,5 +1,5 @@
 -- Tests joined by and, bits one by one, and lists of bits. Assumes nothing.
-use Rattle.std.proofs.Common.{◌≡◌, ℕ, zero, suc, ◌+◌, ◌*◌, ◌/◌, ◌%◌, ◌<◌, ◌≤◌, Bool, true, false, cond, ◌&&◌, T, ◌⊎◌, List, [], ◌∷◌, ◌++◌, sym, refl, ap, ◌∙◌, subst, inl, inr, arith}
+use Rattle.std.proofs.Common.{◌≡◌, ℕ, ◌<◌, Bool, true, false, ◌&&◌, T, ◌⊎◌, List, [], ◌∷◌, ◌++◌, arith}
 use Rattle.bits.specs.Lists.{are_bits, zeros}
 use Rattle.bits.proofs.Tests.{under-head, under_tail, under-nil, under-cons, under-append, under-zeros}
 

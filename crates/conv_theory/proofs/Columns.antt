@@ -1,19 +1,18 @@
 -- The search by numbers is the search: costs and decisions column by column, the bound on costs, and how decisions are read back. Assumes nothing.
-use Rattle.std.proofs.Common.{◌≡◌, ℕ, zero, suc, ◌+◌, ◌-◌, ◌*◌, ◌/◌, ◌%◌, ◌<◌, ◌≤◌, max, Bool, true, false, cond, T, eqb, leb, List, [], ◌∷◌, ◌++◌, map, reverse, length, get_or, take, sym, refl, ap, ◌∙◌, subst, arith}
+use Rattle.std.proofs.Common.{◌≡◌, ℕ, zero, suc, ◌+◌, ◌*◌, ◌/◌, ◌%◌, ◌<◌, ◌≤◌, max, Bool, true, false, cond, T, eqb, leb, List, [], ◌∷◌, ◌++◌, map, reverse, length, get_or, take, sym, refl, ap, ◌∙◌, subst, arith}
 use lib.Dec.{eqb-suc-zero}
-use Rattle.std.specs.List.{range_with_len}
 use Rattle.std.proofs.lemmas.List.FromFn.{length-map-range_with_len, fill_by_all, get_or-map-range_with_len}
-use Rattle.std.proofs.lemmas.List.{get_or-map, length-map, take_more, take_all, append_assoc, reverse-append, length-replicate, get_or-replicate, length-take-le, length-append, ext_get_or, get_or_append_left}
+use Rattle.std.proofs.lemmas.List.{get_or-map, length-map, take_more, take_all, append_assoc, reverse-append, get_or-replicate, length-take-le, length-append, ext_get_or, get_or_append_left}
 use Rattle.std.proofs.lemmas.Bool.{cond_both}
 use Rattle.bits.specs.Lists.{are_bits, zeros}
 use Rattle.conv_theory.specs.declared.Cost.{Cost}
 use Rattle.conv_theory.specs.Code.{deep, first_out, second_out, sent}
 use Rattle.conv_theory.specs.Search.{Way, start, cost_of_all, begin, branch, along, into, column, ways, total, survivors, best, hard}
-use Rattle.conv_theory.specs.Columns.{lower, higher, cheaper, choice, next_costs, choices, after, cost_in, costs_after, nothing, choices_at, Decided}
+use Rattle.conv_theory.specs.Columns.{lower, higher, cheaper, choice, next_costs, choices, after, cost_in, costs_after, nothing, choices_at}
 use Rattle.bits.proofs.Tests.{length-zeros}
 use Rattle.conv_theory.proofs.Basics.{first_bit, rest-bits}
 use Rattle.conv_theory.proofs.Survivors.{at, column-at, chosen}
-use Rattle.conv_theory.proofs.Optimality.{one-within, Found, found}
+use Rattle.conv_theory.proofs.Optimality.{one-within, found}
 
 -- ---- one column
 length-column : (ws : List Way) (x y : Cost) → length (column deep ws x y) ≡ 64

@@ -1,13 +1,13 @@
 -- What a start in another state than 0 costs does not matter, as long as it is more than every way from state 0. Assumes nothing.
-use Rattle.std.proofs.Common.{◌≡◌, ℕ, zero, suc, ◌+◌, ◌-◌, ◌*◌, ◌/◌, ◌%◌, ◌<◌, ◌≤◌, max, Bool, true, false, cond, leb, ◌⊎◌, List, [], ◌∷◌, reverse, length, get_or, drop, sym, refl, ap, ◌∙◌, subst, inl, inr, arith}
+use Rattle.std.proofs.Common.{◌≡◌, ℕ, zero, suc, ◌+◌, ◌*◌, ◌/◌, ◌%◌, ◌<◌, ◌≤◌, max, Bool, cond, ◌⊎◌, List, [], ◌∷◌, reverse, drop, sym, refl, ap, ◌∙◌, subst, inl, inr, arith}
 use Rattle.std.proofs.lemmas.Bool.{le-leb, lt-leb, cases_lt}
 use Rattle.std.proofs.lemmas.List.{get_or-replicate}
 use Rattle.conv_theory.specs.declared.Cost.{Cost}
 use Rattle.conv_theory.specs.Code.{deep, sent}
-use Rattle.conv_theory.specs.Search.{Way, start, begin, branch, along, better, into, column, ways, total, survivors, best_by, best}
+use Rattle.conv_theory.specs.Search.{Way, start, begin, branch, along, better, into, column, ways, total, survivors, best_by}
 use Rattle.conv_theory.specs.Statements.{AnyFar}
 use Rattle.conv_theory.proofs.Survivors.{at, column-at}
-use Rattle.conv_theory.proofs.Optimality.{within-total, Found, found}
+use Rattle.conv_theory.proofs.Optimality.{within-total, found}
 use Rattle.conv_theory.proofs.Columns.{branch-within}
 
 -- two searches that start from f and from g: a state has the same survivor in both, which costs at most t, or a start from afar in both

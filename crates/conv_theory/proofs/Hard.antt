@@ -1,14 +1,13 @@
 -- Hard bits: costs are Hamming distance, so the nearest is found, and four wrong bits don't matter. Assumes nothing.
-use Rattle.std.proofs.Common.{◌≡◌, ℕ, zero, suc, ◌+◌, ◌-◌, ◌*◌, ◌/◌, ◌%◌, ◌<◌, ◌≤◌, cond, T, eqb, ◌⊎◌, List, [], ◌∷◌, ◌++◌, map, length, sym, refl, ap, ◌∙◌, subst, inl, inr, arith}
-use lib.Bits.{bit_and}
+use Rattle.std.proofs.Common.{◌≡◌, ℕ, zero, suc, ◌+◌, ◌*◌, ◌<◌, ◌≤◌, T, ◌⊎◌, List, [], ◌∷◌, ◌++◌, map, length, sym, refl, ◌∙◌, inl, inr, arith}
 use Rattle.std.proofs.lemmas.Bool.{cases_eq}
 use Rattle.std.proofs.lemmas.Bool.Decides.{nat_tests}
 use Rattle.std.proofs.lemmas.List.{length-map, length-append}
 use Rattle.bits.specs.Lists.{are_bits, zeros}
 use Rattle.bits.specs.Distance.{differ, distance}
 use Rattle.conv_theory.specs.Code.{deep, parity, first_out, second_out, next, spread, sent}
-use Rattle.conv_theory.specs.Search.{cost_of, cost_of_all, best, hard, heard_bits}
-use Rattle.conv_theory.specs.Statements.{Bits, Cheapest, Nearest, NearestFound}
+use Rattle.conv_theory.specs.Search.{cost_of, cost_of_all, hard, heard_bits}
+use Rattle.conv_theory.specs.Statements.{NearestFound}
 use Rattle.bits.proofs.Tests.{length-zeros}
 use Rattle.conv_theory.proofs.Basics.{first_bit, rest-bits, more-bits, no_bits}
 use Rattle.conv_theory.proofs.States.{length-spread}

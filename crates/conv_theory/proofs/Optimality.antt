@@ -1,15 +1,15 @@
 -- Optimality: the survivor of state 0 is a way from state 0, and no such way costs less. Assumes nothing.
-use Rattle.std.proofs.Common.{◌≡◌, ℕ, zero, suc, ◌+◌, ◌-◌, ◌*◌, ◌/◌, ◌%◌, ◌<◌, ◌≤◌, max, T, eqb, ◌⊎◌, List, [], ◌∷◌, ◌++◌, reverse, length, get_or, drop, replicate, sym, refl, ap, ◌∙◌, subst, inl, inr, arith}
+use Rattle.std.proofs.Common.{◌≡◌, ℕ, zero, suc, ◌+◌, ◌*◌, ◌<◌, ◌≤◌, max, T, eqb, List, [], ◌∷◌, ◌++◌, reverse, length, drop, sym, refl, ap, ◌∙◌, subst, inl, inr, arith}
 use Rattle.std.proofs.lemmas.List.{reverse-append, reverse-reverse, drop_at, append-nil, length-reverse, length-append, get_or-replicate}
 use Rattle.std.proofs.lemmas.Bool.{cond_both, cases_eq}
 use Rattle.bits.specs.Lists.{are_bits, zeros}
 use Rattle.conv_theory.specs.declared.Cost.{Cost}
-use Rattle.conv_theory.specs.Code.{deep, next, run, spread, sent}
+use Rattle.conv_theory.specs.Code.{deep, run, spread, sent}
 use Rattle.conv_theory.specs.Search.{Way, start, begin, ways, survivors, cost_of, cost_of_all, total, best_by, best}
 use Rattle.conv_theory.specs.Statements.{Bits, Cheapest, Optimal}
 use Rattle.bits.proofs.Tests.{length-zeros}
 use Rattle.conv_theory.proofs.Basics.{bits-append, bits-front, bits-zeros}
-use Rattle.conv_theory.proofs.States.{run-append, run-below, zeros-lead-back, Ended, ends}
+use Rattle.conv_theory.proofs.States.{run-append, run-below, zeros-lead-back, ends}
 use Rattle.conv_theory.proofs.Survivors.{at, none-cheaper, Goes, goes}
 
 pub one-within : (c : Cost) (b : ℕ) → cost_of c b ≤ max c.zero c.one

@@ -1,5 +1,5 @@
 -- Potentials: how many bits two ways that stand in different states still have to differ at before they can meet. Assumes nothing.
-use Rattle.std.proofs.Common.{◌≡◌, ℕ, zero, suc, ◌+◌, ◌*◌, ◌<◌, ◌≤◌, Bool, true, false, ◌&&◌, T, eqb, leb, List, [], ◌∷◌, get_or, sym, refl, ap, ◌∙◌, subst, inl, inr, arith, eqb→eq, leb→le}
+use Rattle.std.proofs.Common.{◌≡◌, ℕ, ◌+◌, ◌<◌, ◌≤◌, Bool, ◌&&◌, T, eqb, leb, List, [], ◌∷◌, get_or, sym, subst, inl, inr, arith, eqb→eq, leb→le}
 use lib.Bits.{bit_xor}
 use Rattle.bits.specs.Distance.{differ}
 use Rattle.conv_theory.specs.Code.{deep, parity, first_out, second_out, next}

@@ -1,5 +1,5 @@
 -- States of the code of 64: where bits lead, and that six zeros lead back to state 0 and nothing else does. Assumes nothing.
-use Rattle.std.proofs.Common.{◌≡◌, ℕ, zero, suc, ◌+◌, ◌*◌, ◌/◌, ◌%◌, ◌<◌, ◌≤◌, T, List, [], ◌∷◌, ◌++◌, length, sym, refl, ap, ◌∙◌, subst, arith}
+use Rattle.std.proofs.Common.{◌≡◌, ℕ, zero, suc, ◌+◌, ◌*◌, ◌<◌, T, List, [], ◌∷◌, ◌++◌, length, sym, refl, ap, ◌∙◌, arith}
 use Rattle.bits.specs.Lists.{are_bits, zeros}
 use Rattle.conv_theory.specs.Code.{deep, next, run, spread}
 use Rattle.conv_theory.proofs.Basics.{first_bit, rest-bits}

@@ -1,5 +1,6 @@
 // The convolutional code's theory: what its decoder looks for, and the theorems about it. The code itself stands in the crate `convolutional`.
 #![tactic(auto)]
+
 ghost use Rattle.std.specs.Prelude.{◌≡◌};
 ghost use Rattle.conv_theory.specs.Statements.{Optimal, AnyFar, FreeDistance, NearestFound, RowsHold, SmallShown};
 

@@ -1,14 +1,12 @@
 -- What the decoders answer: lengths that fit, the bits that are found, and their cost. Assumes nothing.
-use Rattle.std.proofs.Common.{◌≡◌, ℕ, zero, suc, ◌+◌, ◌-◌, ◌*◌, ◌<◌, ◌≤◌, Bool, true, false, ◌&&◌, T, eqb, leb, List, [], ◌∷◌, ◌++◌, map, length, get_or, sym, refl, ap, ◌∙◌, subst, arith}
+use Rattle.std.proofs.Common.{◌≡◌, ℕ, ◌+◌, ◌*◌, ◌≤◌, Bool, true, false, ◌&&◌, T, eqb, leb, List, ◌++◌, map, length, get_or, sym, ◌∙◌, subst}
 use Rattle.std.proofs.lemmas.List.{length-map}
 use Rattle.std.proofs.lemmas.Bool.{and_parts, eqb-true, leb-true}
 use Rattle.bits.specs.Lists.{are_bits, zeros}
 use Rattle.bits.specs.Distance.{distance}
-use Rattle.conv_theory.specs.declared.Cost.{Cost}
 use Rattle.conv_theory.specs.Code.{sent}
-use Rattle.conv_theory.specs.Search.{best, heard_bits, hard, cost_of_all}
+use Rattle.conv_theory.specs.Search.{heard_bits, hard}
 use Rattle.conv_theory.specs.Columns.{costs_after}
-use Rattle.conv_theory.specs.Statements.{Nearest}
 use Rattle.conv_theory.proofs.Columns.{end-cost}
 use Rattle.conv_theory.proofs.Hard.{hard-costs, length-sent, spread-bits, nearest}
 use Rattle.convolutional.specs.Lengths.{memory_fits}

@@ -1,6 +1,6 @@
 -- The encoder's loop: what is written, and what is to come of the bits that are left, is what all bits are sent as. Assumes nothing.
-use Rattle.std.proofs.Common.{◌≡◌, ℕ, zero, suc, ◌+◌, ◌-◌, ◌*◌, ◌/◌, ◌%◌, ◌<◌, ◌≤◌, T, List, [], ◌∷◌, ◌++◌, length, get_or, take, drop, set, sym, refl, ap, ◌∙◌, subst, arith}
-use Rattle.std.proofs.lemmas.List.{take_more_set, take-set-le, take-take, drop_more, append_assoc, length-set, take_all, drop_all, append-nil, get_or_append_left, get_or-append_right}
+use Rattle.std.proofs.Common.{◌≡◌, ℕ, zero, suc, ◌+◌, ◌-◌, ◌*◌, ◌<◌, ◌≤◌, T, List, [], ◌∷◌, ◌++◌, length, get_or, take, drop, set, sym, refl, ap, ◌∙◌, arith}
+use Rattle.std.proofs.lemmas.List.{take_more_set, drop_more, append_assoc, length-set, take_all, drop_all, append-nil, get_or-append_right}
 use Rattle.bits.specs.Lists.{are_bits, zeros}
 use Rattle.conv_theory.proofs.Basics.{first_bit, rest-bits}
 use Rattle.conv_theory.specs.Code.{deep, first_out, second_out, next, spread}

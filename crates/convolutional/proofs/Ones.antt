@@ -1,5 +1,5 @@
 -- The count of a number's ones, modulo 2, is its parity. Assumes nothing.
-use Rattle.std.proofs.Common.{◌≡◌, ℕ, zero, suc, ◌+◌, ◌*◌, ◌/◌, ◌%◌, ◌^◌, ◌<◌, sym, refl, ap, ◌∙◌, subst, pow-suc, arith}
+use Rattle.std.proofs.Common.{◌≡◌, ℕ, zero, suc, ◌/◌, ◌%◌, ◌^◌, ◌<◌, ap, pow-suc, arith}
 use lib.Count.{ones, ones_step}
 use Rattle.conv_theory.specs.Code.{parity}
 

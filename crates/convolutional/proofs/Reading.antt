@@ -1,12 +1,12 @@
 -- The backward loop: what is read from the decisions is what was found. Assumes nothing.
-use Rattle.std.proofs.Common.{◌≡◌, ℕ, zero, suc, ◌+◌, ◌-◌, ◌*◌, ◌/◌, ◌%◌, ◌<◌, ◌≤◌, ◌≢◌, ◌⊎◌, List, [], ◌∷◌, ◌++◌, reverse, length, get_or, take, set, sym, refl, ap, ◌∙◌, subst, inl, inr, arith}
+use Rattle.std.proofs.Common.{◌≡◌, ℕ, ◌+◌, ◌*◌, ◌/◌, ◌%◌, ◌<◌, ◌≤◌, ◌≢◌, ◌⊎◌, List, [], ◌++◌, reverse, length, get_or, take, set, sym, ap, ◌∙◌, subst, inl, inr, arith}
 use Rattle.std.proofs.lemmas.List.{get_or-set_same, get_or-set_other, length-set}
 use Rattle.bits.specs.Lists.{zeros}
 use Rattle.conv_theory.specs.declared.Cost.{Cost}
 use Rattle.conv_theory.specs.Search.{best}
 use Rattle.conv_theory.specs.Columns.{after, choices_at, Decided}
 use Rattle.conv_theory.proofs.Survivors.{at}
-use Rattle.conv_theory.proofs.Columns.{Back, back, back-first, choice-bit, front-is}
+use Rattle.conv_theory.proofs.Columns.{back, back-first, choice-bit, front-is}
 
 -- the survivor of state s after i columns reads as what was found, as far as i; and from i on the output is what was found
 pub record Reads (cs : List Cost) (out : List ℕ) (i s : ℕ) : Type 0 where

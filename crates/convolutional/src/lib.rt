@@ -1,5 +1,6 @@
 // The convolutional code of 64 states: what n bits are sent as, 2 (n + 6) of them, and the search for the bits that were sent.
 #![tactic(auto)]
+
 mod decoder;
 mod encoder;
 mod lengths;

@@ -1,12 +1,11 @@
 -- Rounds of a log that came through are rounds in a row: enough of them end it. Assumes nothing.
-use Rattle.std.proofs.Common.{◌≡◌, ℕ, suc, ◌+◌, ◌<◌, ◌≤◌, Bool, true, false, cond, ◌&&◌, T, ltb, ◌⊎◌, List, [], ◌∷◌, ◌++◌, length, sym, refl, ap, ◌∙◌, subst, inl, inr}
+use Rattle.std.proofs.Common.{◌≡◌, ℕ, ◌+◌, Bool, true, false, cond, T, ltb, ◌⊎◌, List, [], ◌∷◌, ◌++◌, length, sym, ap, ◌∙◌, subst, inl, inr}
 use Rattle.std.proofs.lemmas.Bool.{cases_Bool, cond-true, cond-false, and_parts}
 use Rattle.bits.specs.Heard.{Heard, Lost, Got}
-use Rattle.transfer_theory.specs.Parts.{IsFile, parts}
 use Rattle.transfer_theory.specs.Sender.{Sender, says, after_saying, told, asks, tells_done, at_part, with_place, finished}
 use Rattle.transfer_theory.specs.Payload.{number_of}
 use Rattle.transfer_theory.specs.Receiver.{Receiver, hears, answers, complete}
-use Rattle.transfer_theory.specs.World.{World, Run, step, Says, Asks, Down, Up}
+use Rattle.transfer_theory.specs.World.{World, Run, step, Says, Asks, Down}
 use Rattle.transfer_theory.specs.Onward.{Whole, Arrived}
 use Rattle.transfer_theory.specs.Rounds.{Round, both, mute, Rounds, none, more}
 use Rattle.transfer_theory.proofs.Slots.{is_true, holds}
@@ -14,7 +13,7 @@ use Rattle.transfer_theory.proofs.Safety.{file-right}
 use Rattle.transfer_theory.proofs.Telling.{told-lost}
 use Rattle.transfer_theory.proofs.Following.{whole-line}
 use Rattle.transfer_theory.proofs.InStep.{lockstep}
-use Rattle.driver.specs.Log.{Exchange, replies, with_answer, Spoken, sender_by, receiver_by, said_down, said_up, clean, world_by, Through, AllThrough}
+use Rattle.driver.specs.Log.{Exchange, Spoken, sender_by, receiver_by, clean, world_by, AllThrough}
 use Rattle.driver.specs.Played.{Reached, FileKept, KeepsFile, EndsInTime}
 use Rattle.driver.proofs.Worlds.{turn, turn_is, log-run, rest-spoken, spoken-in}
 

@@ -1,17 +1,17 @@
 -- A round more in the driver's log, and what the log promises. Assumes nothing.
-use Rattle.std.proofs.Common.{◌≡◌, ℕ, zero, suc, ◌+◌, ◌<◌, ◌≤◌, Bool, true, false, cond, not, ◌&&◌, T, ltb, ◌⊎◌, List, [], ◌∷◌, ◌++◌, length, sym, refl, ap, ◌∙◌, subst, inl, inr, arith}
+use Rattle.std.proofs.Common.{◌≡◌, ℕ, zero, suc, ◌+◌, ◌<◌, ◌≤◌, Bool, true, false, cond, not, ◌&&◌, T, ltb, ◌⊎◌, List, [], ◌∷◌, length, sym, refl, ap, ◌∙◌, subst, inl, inr, arith}
 use Rattle.std.proofs.lemmas.Bool.{cases_lt, lt-ltb, ltb-true, and_parts}
 use Rattle.bits.specs.Heard.{Heard, Lost, Got}
 use Rattle.transfer_theory.specs.Parts.{parts}
 use Rattle.transfer_theory.specs.Sender.{Sender, says, after_saying, told}
 use Rattle.transfer_theory.specs.Receiver.{Receiver, hears, complete}
 use Rattle.transfer_theory.specs.World.{World}
-use Rattle.transfer_theory.specs.Onward.{IsPayload, Faithful, Arrived}
+use Rattle.transfer_theory.specs.Onward.{Faithful}
 use Rattle.transfer_theory.specs.Rounds.{Rounds, none, more}
 use Rattle.transfer_theory.proofs.Slots.{is_true}
 use Rattle.transfer_theory.proofs.InStep.{lockstep}
 use Rattle.driver.specs.Log.{Exchange, replies, ongoing, Carried, silent, round, Spoken, Ongoing, sender_by, receiver_by, said_down, said_up, world_by, first_complete, noted}
-use Rattle.driver.specs.Played.{Played, PlayedOn, Turned, Reached, Promised, DriverRight, Brings, Enough}
+use Rattle.driver.specs.Played.{Played, PlayedOn, Turned, DriverRight, Brings, Enough}
 use Rattle.driver.proofs.Worlds.{runs_on, rest-spoken, spoken-in}
 use Rattle.driver.proofs.InARow.{Answered, exchange-round, keeps-file, ends-in-time}
 

@@ -1,7 +1,7 @@
 -- The world that a log leads to: a round more is four steps, and a log is a run with its mark. Assumes nothing.
-use Rattle.std.proofs.Common.{◌≡◌, ℕ, Bool, true, false, cond, ◌&&◌, T, ltb, List, [], ◌∷◌, ◌++◌, sym, refl, ap, ◌∙◌, subst}
+use Rattle.std.proofs.Common.{◌≡◌, ℕ, Bool, true, false, cond, ◌&&◌, ltb, List, [], ◌∷◌, sym, refl, ap, ◌∙◌, subst}
 use Rattle.bits.specs.Heard.{Heard, Lost, Got}
-use Rattle.transfer_theory.specs.Sender.{Sender, says, after_saying, told}
+use Rattle.transfer_theory.specs.Sender.{Sender, after_saying, told}
 use Rattle.transfer_theory.specs.Receiver.{Receiver, hears, answers}
 use Rattle.transfer_theory.specs.World.{World, Run, spoke, replied, below, above, step, Says, Asks, Down, Up, fair}
 use Rattle.driver.specs.Log.{Exchange, replies, with_answer, Spoken, sender_by, receiver_by, said_down, said_up, clean, world_by}

@@ -1,13 +1,13 @@
 -- What is heard in a line is one thing, and all that is printed follows from it. Assumes nothing.
 use Rattle.std.proofs.Common.{◌≡◌, ℕ, Bool, true, false, cond, T, List, [], ◌∷◌, is_some, Some, None, Option, sym, refl, ap, ◌∙◌, subst, true≢false}
 use mathlib.Core.Bool.{false≢true}
-use Rattle.bits.specs.Heard.{Heard, Lost}
+use Rattle.bits.specs.Heard.{Heard}
 use Rattle.link.proofs.Whole.{main}
 use Rattle.text.specs.Lines.{Said, Nothing, Bits, Unknown, said}
 use Rattle.transfer_theory.specs.Sender.{Sender, new_sender, after_saying, told}
 use Rattle.transfer_theory.specs.Receiver.{Receiver, new_receiver, hears, complete, handed}
 use Rattle.ends.specs.Hearing.{HeardOf, HeardIn}
-use Rattle.ends.specs.Turns.{says_line, answer_line, Told, Heeded, ShipTurn, due}
+use Rattle.ends.specs.Turns.{says_line, answer_line, Heeded, ShipTurn, due}
 use Rattle.ends.specs.Transcripts.{done_line, refused_line, written, ShipPrints, ended, turned, finished, refused, ShipTranscript, StationPrints, silent, answered, declined, StationTranscript}
 use Rattle.ends.specs.Laws.{EndsRight}
 

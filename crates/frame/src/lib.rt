@@ -1,5 +1,6 @@
 // Frames: what goes out for a payload of 221 bytes, 4,092 bits, and what is heard in the bits that come in.
 #![tactic(auto)]
+
 mod hearing;
 mod radio;
 mod sending;

@@ -1,5 +1,5 @@
 -- In any word's bits something is heard: whether a code word stands near is decided by going through all lists of bytes. Assumes nothing.
-use Rattle.std.proofs.Common.{◌≡◌, ℕ, zero, suc, ◌+◌, ◌<◌, ◌≤◌, Bool, true, false, T, leb, ◌⊎◌, List, [], ◌∷◌, length, take, sym, refl, ap, ◌∙◌, subst, inl, inr, arith}
+use Rattle.std.proofs.Common.{◌≡◌, ℕ, zero, suc, ◌<◌, ◌≤◌, Bool, true, false, T, leb, ◌⊎◌, List, [], ◌∷◌, length, take, refl, ap, subst, inl, inr, arith}
 use Rattle.std.proofs.lemmas.Bool.{cases_eq, leb-true, leb-false}
 use Rattle.bits.specs.Lists.{are_bytes}
 use Rattle.bits.specs.Distance.{distance}

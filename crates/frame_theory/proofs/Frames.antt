@@ -1,8 +1,8 @@
 -- The promises of frames, from those of the two codes. Assumes nothing.
-use Rattle.std.proofs.Common.{◌≡◌, ℕ, ◌+◌, ◌*◌, ◌<◌, ◌≤◌, Bool, true, false, T, List, [], ◌∷◌, ◌++◌, length, take, sym, refl, ap, ◌∙◌, subst, arith}
+use Rattle.std.proofs.Common.{◌≡◌, ℕ, ◌*◌, ◌≤◌, T, List, ◌++◌, length, take, sym, refl, ap, ◌∙◌, subst, arith}
 use Rattle.std.proofs.lemmas.List.{length-take-le}
 use Rattle.std.proofs.lemmas.Bool.{both_ways}
-use Rattle.bits.specs.Lists.{are_bytes, are_bits, zeros}
+use Rattle.bits.specs.Lists.{are_bytes, zeros}
 use Rattle.bits.specs.Distance.{distance}
 use Rattle.bits.specs.Bytes.{all_bits, all_bytes}
 use Rattle.bits.specs.Pattern.{patterned}
@@ -11,9 +11,8 @@ use Rattle.bits.proofs.Tests.{under-take}
 use Rattle.bits.proofs.Hamming.{distance_self}
 use Rattle.bits.proofs.Packing.{length-all_bits, length-all_bytes, are_bits-all_bits, round_trip}
 use Rattle.bits.proofs.Patterns.{pattern-laws}
-use Rattle.rs_theory.specs.Code.{is_codeword, encode}
+use Rattle.rs_theory.specs.Code.{is_codeword}
 use Rattle.rs_theory.specs.Promise.{OuterCode}
-use Rattle.conv_theory.specs.Code.{sent}
 use Rattle.conv_theory.specs.Search.{heard_bits}
 use Rattle.conv_theory.specs.Statements.{NearestFound}
 use Rattle.conv_theory.proofs.Hard.{length-sent, spread-bits}

@@ -1,13 +1,13 @@
 -- Code words taken apart, and the check inside them. Assumes nothing.
-use Rattle.std.proofs.Common.{◌≡◌, ℕ, zero, suc, ◌+◌, ◌*◌, ◌/◌, ◌%◌, ◌^◌, ◌<◌, ◌≤◌, Bool, true, false, cond, ◌&&◌, T, eqb, ltb, leb, List, [], ◌∷◌, ◌++◌, length, get_or, take, sym, refl, ap, ◌∙◌, subst, arith, lit<, length-append}
+use Rattle.std.proofs.Common.{◌≡◌, ℕ, zero, suc, ◌+◌, ◌*◌, ◌/◌, ◌%◌, ◌<◌, true, ◌&&◌, T, eqb, ltb, List, [], ◌∷◌, length, get_or, take, sym, ap, ◌∙◌, arith, lit<, length-append}
 use lib.Bits.{bit_xor, xor_lt}
-use Rattle.std.proofs.lemmas.List.{take-take, take_at, get_or-take, get_or_at, get_or-append-add, length-take-le}
+use Rattle.std.proofs.lemmas.List.{take-take, take_at, get_or-take, get_or_at, get_or-append-add}
 use Rattle.std.proofs.lemmas.Bool.{and_parts, ltb-true, eqb-true, eq-eqb, cond_both}
 use Rattle.bits.specs.Lists.{are_bytes}
 use Rattle.bits.specs.Crc.{crc, crc_from, shifted, shifted_by}
-use Rattle.bits.proofs.Tests.{holds-true, true-holds, under-head, under_tail, under-cons, under-nil, under-append, under-take}
-use Rattle.rs_theory.specs.Code.{is_codeword, encode, vanishes}
-use Rattle.frame_theory.specs.Frame.{Payload, checked, passes, carrier}
+use Rattle.bits.proofs.Tests.{holds-true, true-holds, under-head, under_tail, under-cons, under-nil, under-append}
+use Rattle.rs_theory.specs.Code.{is_codeword, vanishes}
+use Rattle.frame_theory.specs.Frame.{Payload, checked, passes}
 
 parts : (c : List ℕ) → T (is_codeword c) → ((eqb (length c) 255 && are_bytes c) ≡ true) × (vanishes 32 c ≡ true)
 parts c t = and_parts (eqb (length c) 255 && are_bytes c) (vanishes 32 c) (holds-true _ t)

@@ -1,4 +1,4 @@
--- The field of 256 elements: bytes as polynomials over two elements, modulo x^8 + x^4 + x^3 + x^2 + 1. The sum is bitXor. Assumes nothing.
+-- The field of 256 elements: bytes as polynomials over two elements, modulo x^8 + x^4 + x^3 + x^2 + 1. The sum is bit_xor. Assumes nothing.
 use Rattle.std.specs.Prelude.{ℕ, zero, suc, ◌-◌, ◌*◌, ◌/◌, ◌%◌, cond, ◌==◌, bit_xor, nat_lt}
 
 -- a byte times x: the bit that leaves at the top comes back as 29

@@ -1,4 +1,4 @@
--- That bytes with bitXor as sum and `product` are a field in which `twice` is the product with 2, and that the powers of 2 go through all of it but zero. Assumes nothing.
+-- That bytes with bit_xor as sum and `product` are a field in which `twice` is the product with 2, and that the powers of 2 go through all of it but zero. Assumes nothing.
 use Rattle.std.specs.Prelude.{◌≡◌, ℕ, ◌<◌, ◌⊎◌, ◌≢◌, bit_xor}
 use Rattle.gf256.specs.Field.{twice, product, power, inverse}
 

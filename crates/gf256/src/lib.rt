@@ -42,7 +42,7 @@ pub fn log(a: u8) -> Option<usize>
     Some(LOG[a as usize] as usize)
 }
 
-// Bytes with bitXor and the product are a field, and 2 has order 255.
+// Bytes with bit_xor and the product are a field, and 2 has order 255.
 pub fn field_stands() -> u8
     ensures laws { FieldLaws }
     ensures row { product 2 128 ≡ 29 }

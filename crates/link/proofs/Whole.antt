@@ -29,7 +29,7 @@ use Rattle.transfer_theory.proofs.InStep.{lockstep}
 use Rattle.transfer_theory.proofs.Pairs.{bad-evening}
 use Rattle.transfer_theory.proofs.Edges.{cases-hold}
 use Rattle.link.specs.Ways.{Reached, Spoiled, Worn, LineOnward}
-use Rattle.link.specs.Promise.{FileRight, OnwardRight, Onward, Main}
+use Rattle.link.specs.Promise.{FileRight, Onward, Main}
 use Rattle.link.specs.Rows.{Table}
 
 frames : FrameRight

@@ -1,5 +1,5 @@
 -- The main promise, from bits to files. Each part is a type; a proof of it is the theorem. Assumes nothing.
-use Rattle.std.specs.Prelude.{◌≡◌, ℕ, ◌+◌, ◌<◌, ◌≤◌, true, T, List}
+use Rattle.std.specs.Prelude.{◌≡◌, ℕ, ◌+◌, ◌<◌, ◌≤◌, T, List}
 use Rattle.bits.specs.Heard.{Heard}
 use Rattle.rs_theory.specs.Promise.{OuterCode}
 use Rattle.conv_theory.specs.Statements.{NearestFound, FreeDistance}

@@ -1,5 +1,6 @@
 // The whole link in one piece: the radio and the ship, the station, the main promise over bits and the table of cases.
 #![tactic(auto)]
+
 mod ends;
 mod promises;
 

@@ -1,5 +1,5 @@
 -- One byte that is not zero is repaired to zeros, seventeen are not. Assumes nothing.
-use Rattle.std.proofs.Common.{◌≡◌, ℕ, zero, suc, ◌<◌, ◌≤◌, T, List, [], length, Some, None, Option, sym, refl, ap, ◌∙◌, arith}
+use Rattle.std.proofs.Common.{◌≡◌, ℕ, zero, suc, ◌<◌, T, List, length, Some, None, Option, sym, ap, ◌∙◌, arith}
 use Rattle.bits.specs.Lists.{under, are_bytes, zeros}
 use Rattle.bits.specs.Distance.{distance}
 use Rattle.bits.proofs.Hamming.{distance_self}

@@ -1,5 +1,5 @@
 -- A list that is zero everywhere is zeros, and what the residue says of code words. Assumes nothing.
-use Rattle.std.proofs.Common.{◌≡◌, ℕ, zero, suc, ◌<◌, Bool, true, false, T, List, [], ◌∷◌, length, get_or, MatchBool, sym, refl, ap, ◌∙◌, subst}
+use Rattle.std.proofs.Common.{◌≡◌, ℕ, zero, suc, ◌<◌, Bool, true, false, T, List, length, get_or, MatchBool, sym, refl, ap, ◌∙◌}
 use Rattle.std.proofs.lemmas.List.{ext_get_or}
 use Rattle.bits.specs.Lists.{zeros}
 use Rattle.rs_theory.specs.Code.{is_codeword}

@@ -1,5 +1,5 @@
 -- What arrives of a frame: bits. Assumes nothing.
-use Rattle.std.proofs.Common.{◌≡◌, ℕ, Bool, true, false, cond, T, List, [], length, Some, None, Option, sym, refl, ap, ◌∙◌, subst}
+use Rattle.std.proofs.Common.{◌≡◌, ℕ, Bool, true, false, cond, T, List, [], length, Some, None, Option, sym, ap, ◌∙◌, subst}
 use Rattle.bits.specs.Lists.{are_bits, under}
 use Rattle.text.specs.Noise.{arriving, emptied, flipped, stepped}
 use Rattle.text.proofs.NoiseLaws.{text-right}

@@ -1,24 +1,23 @@
 -- Frames with at most four bits wrong come through, so enough rounds of them end a rehearsal. Assumes nothing.
-use Rattle.std.proofs.Common.{◌≡◌, ℕ, ◌+◌, ◌<◌, ◌≤◌, Bool, true, false, cond, ◌&&◌, T, ltb, ◌⊎◌, List, [], ◌∷◌, ◌++◌, length, Some, None, Option, sym, refl, ap, ◌∙◌, subst, inl, inr}
+use Rattle.std.proofs.Common.{◌≡◌, ℕ, ◌<◌, Bool, true, false, T, ltb, ◌⊎◌, List, [], ◌∷◌, ◌++◌, Option, sym, refl, ◌∙◌, subst, inl, inr}
 use Rattle.std.proofs.lemmas.Bool.{cases_Bool, cond-true, cond-false}
 use Rattle.bits.specs.Heard.{Heard, Lost, Got}
 use Rattle.frame_theory.specs.Frame.{frame, Hears}
-use Rattle.text.specs.Noise.{arriving}
 use Rattle.transfer_theory.specs.Parts.{IsFile}
-use Rattle.transfer_theory.specs.Sender.{Sender, new_sender, says}
+use Rattle.transfer_theory.specs.Sender.{new_sender}
 use Rattle.transfer_theory.specs.Receiver.{Receiver, new_receiver, hears, answers, complete, handed}
-use Rattle.transfer_theory.specs.World.{World, Run, begins, start}
+use Rattle.transfer_theory.specs.World.{Run, begins, start}
 use Rattle.transfer_theory.specs.Onward.{IsPayload}
 use Rattle.transfer_theory.proofs.Slots.{holds, is_true}
 use Rattle.transfer_theory.proofs.Following.{says-payloads}
 use Rattle.driver.specs.Log.{Exchange, replies, Spoken, sender_by, receiver_by, clean, world_by, Through, AllThrough}
-use Rattle.driver.specs.Played.{Reached, FileKept}
+use Rattle.driver.specs.Played.{Reached}
 use Rattle.driver.proofs.Worlds.{log-run, rest-spoken}
 use Rattle.driver.proofs.InARow.{earlier-spoken, earlier-clean}
 use Rattle.link.proofs.Whole.{main}
 use Rattle.rehearsal.specs.declared.noisy.Noisy.{Noisy}
 use Rattle.rehearsal.specs.Noisy.{HeardIn, Crosses, new_line, line_by, Crossed}
-use Rattle.rehearsal.specs.Rehearsed.{Table, table_by, Rehearsed}
+use Rattle.rehearsal.specs.Rehearsed.{Table}
 use Rattle.rehearsal.specs.Laws.{Fine, FineRounds, EndsInTime, HandsOver, RehearsalRight}
 use Rattle.rehearsal.proofs.Arriving.{arrived-bits, arrived-long}
 use Rattle.rehearsal.proofs.Folded.{repeatable}

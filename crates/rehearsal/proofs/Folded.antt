@@ -1,5 +1,5 @@
 -- The line after rounds is what the log says, and the log is decided by the file, the seed, P and the count of rounds. Assumes nothing.
-use Rattle.std.proofs.Common.{◌≡◌, ℕ, zero, suc, ◌<◌, List, [], ◌∷◌, length, Some, None, Option, sym, refl, ap, ◌∙◌, subst, arith}
+use Rattle.std.proofs.Common.{◌≡◌, ℕ, List, [], ◌∷◌, length, Some, None, Option, sym, refl, ap, ◌∙◌, subst, arith}
 use Rattle.bits.specs.Heard.{Heard, Lost, Got}
 use Rattle.frame_theory.specs.Frame.{frame}
 use Rattle.text.specs.Noise.{arriving}

@@ -1,5 +1,5 @@
 -- Lists of bytes, entry by entry. Assumes nothing.
-use Rattle.std.proofs.Common.{◌≡◌, ℕ, zero, suc, ◌+◌, ◌<◌, ◌≤◌, Bool, true, false, ◌&&◌, T, ltb, List, [], ◌∷◌, length, get_or, sym, refl, ap, ◌∙◌, subst, suc-le-suc, zero-le, le_of_suc-le-suc, not-suc-le-zero, lit<, ltb→lt}
+use Rattle.std.proofs.Common.{ℕ, zero, suc, ◌<◌, Bool, true, false, ◌&&◌, T, ltb, List, [], ◌∷◌, length, get_or, suc-le-suc, zero-le, lit<, ltb→lt}
 use Rattle.std.proofs.lemmas.Bool.{lt-ltb}
 use Rattle.bits.specs.Lists.{are_bytes, under}
 

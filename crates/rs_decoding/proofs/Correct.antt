@@ -1,15 +1,15 @@
 -- What the corrected word is: the code word within reach, if there is one. Assumes nothing.
-use Rattle.std.proofs.Common.{◌≡◌, ℕ, zero, suc, ◌+◌, ◌%◌, ◌<◌, ◌≤◌, Bool, true, false, cond, ◌&&◌, T, eqb, ◌⊎◌, List, [], ◌∷◌, length, get_or, drop, sym, refl, ap, ◌∙◌, subst, ap₂, inl, inr, ⊎_elim, suc-le-suc, zero-le, le_refl, le_of_suc-le-suc, not-suc-le-zero, add-zero, add-suc, suc-add, one-add, arith, lit<, lit≤, eqb→eq}
-use Rattle.std.proofs.lemmas.Bool.{eqb-true, eqb-false, eq-eqb, ne_eqb}
+use Rattle.std.proofs.Common.{◌≡◌, ℕ, zero, suc, ◌+◌, ◌<◌, ◌≤◌, true, false, cond, T, eqb, ◌⊎◌, List, [], ◌∷◌, length, get_or, drop, sym, refl, ap, ◌∙◌, ⊎_elim, suc-le-suc, zero-le, le_of_suc-le-suc, not-suc-le-zero, add-zero, add-suc, suc-add, one-add, arith, lit≤}
+use Rattle.std.proofs.lemmas.Bool.{eqb-false}
 use Rattle.std.proofs.lemmas.List.{ext_get_or}
-use Rattle.bits.specs.Lists.{are_bytes, under, zeros}
+use Rattle.bits.specs.Lists.{are_bytes}
 use Rattle.bits.specs.Distance.{distance}
 use Rattle.gf256.specs.Field.{power}
-use Rattle.gf256.proofs.Ring.{◌⊕◌, ◌⊙◌, ring, ⊕-zero-l, ⊕-zero-r, ⊕-self, ⊕-cancel, ⊕-below}
-use Rattle.rs_theory.specs.Code.{value_from, vanishes, is_codeword}
-use Rattle.rs_theory.proofs.Sum.{sum, weight, plus, sum-plus, length-plus, bytes-plus}
+use Rattle.gf256.proofs.Ring.{◌⊕◌, ring, ⊕-zero-l, ⊕-cancel}
+use Rattle.rs_theory.specs.Code.{value_from, is_codeword}
+use Rattle.rs_theory.proofs.Sum.{sum, plus, sum-plus, length-plus, bytes-plus}
 use Rattle.rs_theory.proofs.Distance.{Locators}
-use Rattle.rs_theory.proofs.Value.{locators, length-locators, locators-are, value-is, vanishes-sums, weight-plus}
+use Rattle.rs_theory.proofs.Value.{locators, length-locators, locators-are, value-is, weight-plus}
 use Rattle.rs_theory.proofs.Codewords.{codeword-parts, codeword-sums}
 use Rattle.rs_decoding.specs.Decoding.{dot, evaluate, values_of, roots_of, value_at, corrected}
 use Rattle.rs_decoding.proofs.Kernel.{Valid, valid-less, Rooted, kernel-lemma}

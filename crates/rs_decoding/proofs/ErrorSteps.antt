@@ -1,12 +1,12 @@
 -- One turn of the loops that find the roots, free the syndromes and take the errors off. Assumes nothing.
-use Rattle.std.proofs.Common.{◌≡◌, ℕ, zero, suc, ◌+◌, ◌-◌, ◌<◌, ◌≤◌, Bool, true, false, cond, eqb, List, [], ◌∷◌, ◌++◌, length, get_or, take, drop, set, sym, refl, ap, ◌∙◌, subst, ap₂, append_assoc, suc-le-suc, zero-le, le_of_suc-le-suc, not-suc-le-zero, arith, length-append, length-drop}
-use Rattle.std.proofs.lemmas.List.{drop_more, drop_all, take_more, take_more_set, take_all, take-append-drop, length-take-le, drop-set-lt, append-nil, ext_get_or}
+use Rattle.std.proofs.Common.{◌≡◌, ℕ, zero, suc, ◌+◌, ◌-◌, ◌<◌, ◌≤◌, cond, eqb, List, [], ◌∷◌, ◌++◌, length, get_or, take, drop, set, sym, refl, ap, ◌∙◌, ap₂, append_assoc, le_of_suc-le-suc, not-suc-le-zero, arith, length-append, length-drop}
+use Rattle.std.proofs.lemmas.List.{drop_more, drop_all, take_more, take_more_set, take-append-drop, length-take-le, drop-set-lt, append-nil, ext_get_or}
 use Rattle.std.proofs.lemmas.Bool.{eq-eqb, ne_eqb}
 use Rattle.bits.specs.Distance.{differ, distance}
 use Rattle.bits.proofs.Hamming.{differ_same, differ-not}
 use Rattle.gf256.specs.Field.{power}
 use Rattle.gf256.proofs.Ring.{◌⊕◌, ◌⊙◌}
-use Rattle.rs_theory.proofs.Value.{locators, length-locators, get_or-locators}
+use Rattle.rs_theory.proofs.Value.{locators, get_or-locators}
 use Rattle.rs_decoding.specs.Decoding.{evaluate, values_of, roots_of, peel, peel_others, others, value_at, corrected}
 
 -- the locator of place p

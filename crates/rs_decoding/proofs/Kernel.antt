@@ -1,6 +1,6 @@
 -- The kernel lemma: a vector orthogonal to enough windows of the syndromes is a polynomial that vanishes at the locator of every error. Assumes nothing.
-use Rattle.std.proofs.Common.{◌≡◌, ℕ, zero, suc, ◌+◌, ◌%◌, ◌<◌, ◌≤◌, Bool, true, false, cond, T, eqb, ◌⊎◌, List, [], ◌∷◌, length, get_or, drop, sym, refl, ap, ◌∙◌, subst, ap₂, inl, inr, ⊎_elim, suc-le-suc, zero-le, le_trans, le_of_suc-le-suc, not-suc-le-zero, add-zero, add-le-add, add-suc, mod-eq_of_lt, suc-add, zero-add, arith, lit<, length-drop}
-use Rattle.std.proofs.lemmas.Bool.{eqb-true, eqb-false, eq-eqb, lt-ltb}
+use Rattle.std.proofs.Common.{◌≡◌, ℕ, zero, suc, ◌+◌, ◌<◌, ◌≤◌, Bool, true, false, cond, T, eqb, ◌⊎◌, List, [], ◌∷◌, length, drop, sym, refl, ap, ◌∙◌, ap₂, inl, inr, ⊎_elim, suc-le-suc, zero-le, le_trans, le_of_suc-le-suc, not-suc-le-zero, add-zero, add-le-add, suc-add, zero-add, arith, lit<}
+use Rattle.std.proofs.lemmas.Bool.{eqb-true, eq-eqb, lt-ltb}
 use Rattle.bits.specs.Lists.{are_bytes, under, zeros}
 use Rattle.gf256.proofs.Ring.{◌⊕◌, ◌⊙◌, pow, ring, ⊙-zero-r, ⊙-zero-l, ⊕-zero-l, ⊙-below, ⊙-nonzero, pow-suc, ⊕-below}
 use Rattle.rs_theory.proofs.Sum.{sum, weight}

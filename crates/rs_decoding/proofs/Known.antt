@@ -1,11 +1,11 @@
 -- Places that are known to be bad: syndromes freed from their locators are those of the other errors, so that fewer are left to find. Assumes nothing.
-use Rattle.std.proofs.Common.{◌≡◌, ℕ, zero, suc, ◌+◌, ◌%◌, ◌<◌, ◌≤◌, T, ◌⊎◌, List, [], ◌∷◌, ◌++◌, length, sym, refl, ap, ◌∙◌, subst, ap₂, inl, inr, ⊎_elim, suc-le-suc, zero-le, suc-add, zero-add, arith}
+use Rattle.std.proofs.Common.{◌≡◌, ℕ, zero, suc, ◌+◌, ◌<◌, ◌≤◌, T, ◌⊎◌, List, [], ◌∷◌, ◌++◌, length, refl, subst, inl, inr, ⊎_elim, suc-le-suc, zero-le, suc-add, zero-add, arith}
 use Rattle.bits.specs.Lists.{are_bytes}
 use Rattle.gf256.proofs.Ring.{◌⊕◌, ◌⊙◌, ⊙-nonzero, ⊙-below, ⊕-below, ⊕-cancel}
-use Rattle.rs_theory.proofs.Sum.{sum, scale}
+use Rattle.rs_theory.proofs.Sum.{scale}
 use Rattle.rs_theory.proofs.Distance.{Locators}
-use Rattle.rs_decoding.specs.Decoding.{peel, evaluate}
-use Rattle.rs_decoding.proofs.Bytes.{under-head, under_tail, under-cons}
+use Rattle.rs_decoding.specs.Decoding.{peel}
+use Rattle.rs_decoding.proofs.Bytes.{under-head, under_tail}
 use Rattle.rs_decoding.proofs.Kernel.{Valid, Rooted}
 use Rattle.rs_decoding.proofs.Peel.{In, Supported, valid-peel}
 use Rattle.rs_decoding.proofs.Roots.{roots_among, supported}

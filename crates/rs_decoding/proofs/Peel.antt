@@ -1,6 +1,6 @@
 -- The values of the errors: syndromes freed from all error locators but one give the error there. Assumes nothing.
-use Rattle.std.proofs.Common.{◌≡◌, ℕ, zero, suc, ◌+◌, ◌%◌, ◌<◌, ◌≤◌, Bool, true, false, cond, T, eqb, ◌⊎◌, List, [], ◌∷◌, length, get_or, sym, refl, ap, ◌∙◌, subst, ap₂, inl, inr, ⊎_elim, suc-le-suc, zero-le, le_refl, le_of_suc-le-suc, not-suc-le-zero, arith, lit<}
-use Rattle.std.proofs.lemmas.Bool.{eqb-true, eqb-false, eq-eqb, ne_eqb}
+use Rattle.std.proofs.Common.{◌≡◌, ℕ, zero, suc, ◌%◌, ◌<◌, ◌≤◌, Bool, true, false, cond, T, eqb, ◌⊎◌, List, [], ◌∷◌, length, get_or, sym, refl, ap, ◌∙◌, ap₂, ⊎_elim, le_refl, le_of_suc-le-suc, not-suc-le-zero, arith}
+use Rattle.std.proofs.lemmas.Bool.{eqb-false, ne_eqb}
 use Rattle.bits.specs.Lists.{are_bytes}
 use Rattle.gf256.specs.Field.{inverse}
 use Rattle.gf256.proofs.Ring.{◌⊕◌, ◌⊙◌, pow, ring, ⊙-zero-r, ⊙-zero-l, ⊕-zero-l, ⊕-zero-r, ⊕-self, ⊕-cancel, ⊙-below, ⊙-nonzero, ⊙-inverse, ⊙-one, ⊙-one-product, ⊙-comm, ⊙-assoc, pow-suc, pow-zero, ⊕-below}

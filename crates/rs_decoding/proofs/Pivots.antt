@@ -1,9 +1,9 @@
 -- Vectors with a pivot in each row: what adding a multiple of one to another does, and that seventeen do not find place in sixteen rows. Assumes nothing.
-use Rattle.std.proofs.Common.{◌≡◌, ℕ, zero, suc, ◌+◌, ◌%◌, ◌<◌, ◌≤◌, Bool, true, false, cond, T, eqb, ◌⊎◌, List, [], ◌∷◌, length, get_or, drop, set, sym, refl, ap, ◌∙◌, subst, ap₂, inl, inr, ⊎_elim, suc-le-suc, zero-le, le_refl, le_of_suc-le-suc, not-suc-le-zero, arith, lit<}
+use Rattle.std.proofs.Common.{◌≡◌, ℕ, zero, suc, ◌%◌, ◌<◌, ◌≤◌, List, [], ◌∷◌, length, get_or, set, sym, refl, ap, ◌∙◌, suc-le-suc, zero-le, le_of_suc-le-suc, not-suc-le-zero, arith}
 use Rattle.bits.specs.Distance.{differ}
 use Rattle.bits.proofs.Hamming.{differ_same, differ-not, differ-le}
 use Rattle.gf256.specs.Field.{inverse}
-use Rattle.gf256.proofs.Ring.{◌⊕◌, ◌⊙◌, ring, ⊙-zero-r, ⊙-zero-l, ⊕-zero-l, ⊕-zero-r, ⊕-self, ⊙-comm, ⊙-assoc, ⊙-inverse, ⊙-one}
+use Rattle.gf256.proofs.Ring.{◌⊕◌, ◌⊙◌, ring, ⊙-zero-r, ⊕-zero-r, ⊕-self, ⊙-comm, ⊙-assoc, ⊙-inverse, ⊙-one}
 use Rattle.rs_theory.proofs.Sum.{weight}
 use Rattle.rs_decoding.specs.Decoding.{dot, combine}
 

@@ -1,12 +1,12 @@
 -- The search row by row: what one row does to a vector, and what a new pivot does to the others. Assumes nothing.
-use Rattle.std.proofs.Common.{◌≡◌, ℕ, zero, suc, ◌+◌, ◌<◌, ◌≤◌, ◌≢◌, ◌⊎◌, List, [], ◌∷◌, length, get_or, drop, set, replicate, sym, refl, ap, ◌∙◌, subst, ap₂, inl, inr, ⊎_elim, le_refl, arith, below_more}
+use Rattle.std.proofs.Common.{◌≡◌, ℕ, suc, ◌+◌, ◌<◌, ◌≤◌, ◌≢◌, List, [], length, get_or, drop, set, replicate, sym, ap, ◌∙◌, ap₂, ⊎_elim, le_refl, arith, below_more}
 use Rattle.std.proofs.lemmas.Bool.{cases_eq, cases_lt}
 use Rattle.std.proofs.lemmas.List.{get_or-set_same, get_or-set_other, get_or-replicate, get_or_past, length-replicate}
 use Rattle.gf256.specs.Field.{inverse}
 use Rattle.gf256.proofs.Ring.{◌⊕◌, ◌⊙◌}
 use Rattle.rs_theory.proofs.Sum.{weight}
 use Rattle.rs_decoding.specs.Decoding.{dot, combine}
-use Rattle.rs_decoding.specs.Search.{Topped, Pivots, Reduced, InKernel}
+use Rattle.rs_decoding.specs.Search.{Topped, Pivots, Reduced}
 use Rattle.rs_decoding.proofs.Pivots.{dot-combine, combine-at, combine-none, clears, weight-set, weight-within}
 
 -- u is orthogonal to the rows before i, and as long as the pivots allow

@@ -1,13 +1,13 @@
 -- A polynomial that is not zero has fewer roots than coefficients. Assumes nothing.
-use Rattle.std.proofs.Common.{◌≡◌, ℕ, zero, suc, ◌+◌, ◌%◌, ◌<◌, ◌≤◌, Bool, true, false, cond, T, eqb, ◌⊎◌, List, [], ◌∷◌, length, get_or, sym, refl, ap, ◌∙◌, subst, ap₂, inl, inr, ⊎_elim, suc-le-suc, zero-le, le_refl, le_of_suc-le-suc, not-suc-le-zero, arith, lit<}
-use Rattle.std.proofs.lemmas.Bool.{eqb-true, eqb-false, eq-eqb, ne_eqb, cases_lt}
+use Rattle.std.proofs.Common.{◌≡◌, ℕ, zero, suc, ◌<◌, ◌≤◌, true, false, cond, T, eqb, List, [], ◌∷◌, length, get_or, sym, refl, ap, ◌∙◌, ap₂, inl, inr, ⊎_elim, suc-le-suc, zero-le, le_of_suc-le-suc, not-suc-le-zero, arith}
+use Rattle.std.proofs.lemmas.Bool.{eqb-true, eq-eqb, cases_lt}
 use Rattle.bits.specs.Lists.{are_bytes, under, zeros}
-use Rattle.gf256.proofs.Ring.{◌⊕◌, ◌⊙◌, ring, ⊙-zero-r, ⊙-zero-l, ⊕-zero-l, ⊕-zero-r, ⊕-self, ⊕-cancel, ⊙-below, ⊙-nonzero, ⊕-below}
+use Rattle.gf256.proofs.Ring.{◌⊕◌, ◌⊙◌, ring, ⊙-zero-r, ⊕-zero-l, ⊕-zero-r, ⊕-self, ⊕-cancel, ⊙-nonzero, ⊕-below}
 use Rattle.rs_theory.proofs.Distance.{Unlike, Locators}
 use Rattle.rs_decoding.specs.Decoding.{evaluate, values_of, roots_of}
 use Rattle.rs_decoding.proofs.Kernel.{evaluate-below, Rooted}
 use Rattle.rs_decoding.proofs.Peel.{In, Supported}
-use Rattle.rs_decoding.proofs.Bytes.{under-head, under_tail, under-cons}
+use Rattle.rs_decoding.proofs.Bytes.{under_tail, under-cons}
 
 -- ---- division by x - y: of the polynomial with coefficients a, cs the quotient is `quot y cs`
 quot : ℕ → List ℕ → List ℕ

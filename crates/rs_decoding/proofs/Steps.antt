@@ -1,7 +1,6 @@
 -- One turn of the loops that compute what the definitions of decoding say. Assumes nothing.
-use Rattle.std.proofs.Common.{◌≡◌, ℕ, zero, suc, ◌+◌, ◌<◌, ◌≤◌, List, [], ◌∷◌, ◌++◌, length, get_or, take, drop, set, sym, refl, ap, ◌∙◌, subst, ap₂, append_assoc, add_assoc, arith}
+use Rattle.std.proofs.Common.{◌≡◌, ℕ, zero, suc, ◌+◌, ◌<◌, ◌≤◌, List, [], ◌∷◌, ◌++◌, length, get_or, take, drop, set, sym, refl, ap, ◌∙◌, ap₂, append_assoc, add_assoc, arith}
 use Rattle.std.proofs.lemmas.List.{drop_more, drop_all, take_more_set, take_all, drop-set-lt, append-nil, get_or-drop}
-use Rattle.gf256.specs.Field.{power}
 use Rattle.gf256.proofs.Ring.{◌⊕◌, ◌⊙◌, ⊕-assoc, ⊕-zero-r, ⊙-zero-r}
 use Rattle.rs_decoding.specs.Decoding.{dot, combine, evaluate}
 

@@ -1,5 +1,5 @@
 -- The power that stands for an inverse is 0 at 0. Assumes nothing.
-use Rattle.std.proofs.Common.{◌≡◌, ℕ, refl}
+use Rattle.std.proofs.Common.{◌≡◌, refl}
 use Rattle.gf256.specs.Field.{product_by, product, power, inverse}
 
 pub inverse-zero : inverse 0 ≡ 0

@@ -1,5 +1,5 @@
 -- Long division by the generator: a message followed by its remainder is zero wherever the generator is. Assumes nothing.
-use Rattle.std.proofs.Common.{◌≡◌, ℕ, zero, suc, ◌<◌, T, ltb, List, [], ◌∷◌, ◌++◌, length, sym, refl, ap, ◌∙◌, ap₂, arith, lt→ltb}
+use Rattle.std.proofs.Common.{◌≡◌, ℕ, suc, ◌<◌, T, ltb, List, [], ◌∷◌, ◌++◌, length, sym, refl, ap, ◌∙◌, ap₂, arith, lt→ltb}
 use lib.Bits.{bit_xor, xor_lt}
 use Rattle.bits.specs.Lists.{under, are_bytes}
 use Rattle.gf256.specs.Field.{product, power}

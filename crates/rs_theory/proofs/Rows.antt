@@ -3,7 +3,7 @@ use Rattle.std.proofs.Common.{◌≡◌, ℕ, false, List, [], ◌∷◌, ◌++�
 use Rattle.bits.specs.Lists.{under, zeros}
 use Rattle.bits.specs.Distance.{distance}
 use Rattle.gf256.specs.Field.{product, product_by, power}
-use Rattle.rs_theory.specs.Code.{value_from, vanishes, is_codeword, feed, remainder, generator}
+use Rattle.rs_theory.specs.Code.{value_from, vanishes, is_codeword, feed, remainder}
 use Rattle.rs_theory.specs.Promise.{OuterRows}
 use Rattle.rs_theory.proofs.Generator.{coefficients, generator-is}
 use Rattle.rs_theory.proofs.Encoding.{parity, encode-is}

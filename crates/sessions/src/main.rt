@@ -1,5 +1,6 @@
 // Sessions of ship and station by the calls that the programs make, and what they refuse: each case with what came and what should.
 #![tactic(auto)]
+
 mod arguments;
 mod files;
 mod lines;

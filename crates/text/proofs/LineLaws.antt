@@ -1,11 +1,10 @@
 -- What is written is read back, and nothing else is read as a frame. Assumes nothing.
-use Rattle.std.proofs.Common.{◌≡◌, ℕ, suc, ◌+◌, ◌-◌, ◌%◌, ◌<◌, ◌≤◌, Bool, true, false, cond, ◌&&◌, ◌||◌, T, eqb, List, [], ◌∷◌, length, take, sym, refl, ap, ◌∙◌, subst, ⊎_elim, arith}
+use Rattle.std.proofs.Common.{◌≡◌, ℕ, ◌%◌, ◌<◌, Bool, true, false, cond, ◌&&◌, T, eqb, List, [], ◌∷◌, length, take, sym, refl, ap, ◌∙◌, subst, ⊎_elim, arith}
 use Rattle.std.proofs.lemmas.List.{length-map, take_all, length-take-le, nil_from_length}
 use Rattle.std.proofs.lemmas.Bool.{eq-eqb, ne_eqb, eqb-true, and_parts, and_from, and_left, or_cases, or_left, or_right, cases_lt, cases_eq}
 use Rattle.bits.specs.Lists.{are_bits}
-use Rattle.bits.proofs.Tests.{holds-true, under-nil, under-cons, under-head, under_tail}
-use Rattle.text.specs.Lines.{Said, Nothing, Bits, Unknown, digit_of, bit_of, digits, bits_in, is_digit, are_digits, said}
-use Rattle.text.specs.Input.{kept}
+use Rattle.bits.proofs.Tests.{under-nil, under-cons, under-head, under_tail}
+use Rattle.text.specs.Lines.{Nothing, Bits, Unknown, digit_of, bit_of, digits, bits_in, is_digit, are_digits, said}
 use Rattle.text.specs.Laws.{LineLaws}
 
 digit-of : (b : ℕ) → is_digit (digit_of b) ≡ true

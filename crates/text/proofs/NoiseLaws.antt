@@ -4,7 +4,7 @@ use Rattle.std.proofs.lemmas.Bool.{cond_both}
 use Rattle.bits.specs.Lists.{are_bits}
 use Rattle.bits.proofs.Tests.{under-nil, under-cons, under-head, under_tail}
 use Rattle.text.specs.Noise.{stepped, output, drawn, advanced, other, flipped}
-use Rattle.text.specs.Laws.{NoiseLaws, Vectors, outputs, TextRight}
+use Rattle.text.specs.Laws.{Vectors, outputs, TextRight}
 use Rattle.text.proofs.LineLaws.{line-laws}
 use Rattle.text.proofs.ChunkLaws.{chunk-laws}
 

@@ -1,8 +1,8 @@
 -- The value of decimal digits, one digit further. Assumes nothing.
-use Rattle.std.proofs.Common.{◌≡◌, ℕ, ◌+◌, ◌-◌, ◌*◌, ◌<◌, ◌≤◌, Bool, true, false, ◌&&◌, T, List, [], ◌∷◌, length, get_or, drop, sym, refl, ap, ◌∙◌, arith}
+use Rattle.std.proofs.Common.{◌≡◌, ℕ, ◌+◌, ◌-◌, ◌*◌, ◌<◌, ◌≤◌, true, ◌&&◌, T, List, [], ◌∷◌, length, get_or, drop, sym, ap, ◌∙◌, arith}
 use Rattle.std.proofs.lemmas.List.{drop_more, drop_all}
 use Rattle.std.proofs.lemmas.Bool.{and_parts}
-use Rattle.bits.proofs.Tests.{holds-true, true-holds}
+use Rattle.bits.proofs.Tests.{holds-true}
 use Rattle.text.specs.Numbers.{is_decimal, are_decimal, decimal_from, decimal}
 
 pub are_decimal-more : (xs : List ℕ) (i : ℕ) → i < length xs → are_decimal (drop i xs) ≡ (is_decimal (get_or xs i 0) && are_decimal (drop (i + 1) xs))

@@ -1,10 +1,10 @@
 -- Lists of bytes: a body that is cut at the payload's end, zeros behind, and a payload written out. Assumes nothing.
-use Rattle.std.proofs.Common.{◌≡◌, ℕ, zero, suc, ◌+◌, ◌-◌, ◌*◌, ◌/◌, ◌%◌, ◌<◌, ◌≤◌, min, List, [], ◌∷◌, ◌++◌, length, get_or, take, drop, sym, refl, ap, ◌∙◌, subst, append-nil, arith, length-append, length-drop, take_all, take-take}
+use Rattle.std.proofs.Common.{◌≡◌, ℕ, zero, suc, ◌+◌, ◌-◌, ◌/◌, ◌%◌, ◌≤◌, min, List, [], ◌∷◌, ◌++◌, length, take, drop, sym, refl, ap, ◌∙◌, append-nil, arith, length-drop, take_all}
 use native.Mathlib.Nat.{zero-sub, sub-zero}
 use lib.Seq.{take-append-add}
 use borrow.Rule.Slice.PartMut.{put_mid}
 use Rattle.bits.specs.Lists.{zeros}
-use Rattle.transfer_theory.specs.Payload.{filled, built, payload, body_of}
+use Rattle.transfer_theory.specs.Payload.{filled, built, payload}
 
 pub take_min : (a b : ℕ) (xs : List ℕ) → take a (take b xs) ≡ take (min a b) xs
 take_min zero b xs = let q : 0 ≡ min 0 b = omega arith in ap (λ (k : ℕ). take k xs) q

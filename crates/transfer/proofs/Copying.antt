@@ -1,11 +1,11 @@
 -- Copying the slots' bytes out, one after the other, up to the length. Assumes nothing.
-use Rattle.std.proofs.Common.{◌≡◌, ℕ, zero, suc, ◌+◌, ◌-◌, ◌*◌, ◌<◌, ◌≤◌, min, ◌⊎◌, List, [], ◌∷◌, ◌++◌, length, get_or, take, drop, sym, refl, ap, ◌∙◌, subst, inl, inr, append_assoc, append-nil, arith, length-append, length-drop, length-take, take_all, drop-drop, take_at, drop_at}
+use Rattle.std.proofs.Common.{◌≡◌, ℕ, zero, suc, ◌+◌, ◌-◌, ◌*◌, ◌<◌, min, List, [], ◌∷◌, ◌++◌, length, get_or, take, drop, sym, refl, ap, ◌∙◌, inl, inr, append_assoc, append-nil, arith, length-append, length-take, take_all, drop-drop, take_at}
 use lib.Seq.{take-append-le, take-append-add, drop-append-add}
 use Rattle.std.proofs.lemmas.Bool.{cases_lt}
 use Rattle.transfer_theory.specs.Receiver.{Slot, Missing, Have, joined}
-use Rattle.transfer.specs.Memory.{slot_of, slot_in, slots_from, slots_of, bytes_in, overwritten}
+use Rattle.transfer.specs.Memory.{slot_of, slots_of, bytes_in, overwritten}
 use Rattle.transfer.proofs.Bytes.{take_min}
-use Rattle.transfer.proofs.Slotted.{slots_at, length-slots}
+use Rattle.transfer.proofs.Slotted.{slots_at}
 
 -- what a slot adds
 abbrev pub held : Slot → List ℕ

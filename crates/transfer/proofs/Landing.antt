@@ -1,7 +1,7 @@
 -- What the station's code does at each of its ways is what the receiver does. Assumes nothing.
-use Rattle.std.proofs.Common.{◌≡◌, ℕ, ◌+◌, ◌-◌, ◌/◌, ◌<◌, ◌≤◌, Bool, true, false, cond, eqb, ltb, List, [], sym, refl, ap, ◌∙◌, subst, arith}
+use Rattle.std.proofs.Common.{◌≡◌, ℕ, ◌<◌, ◌≤◌, true, false, eqb, ltb, List, sym, ap, ◌∙◌, subst}
 use Rattle.std.proofs.lemmas.Bool.{and_from, and_right, eq-eqb, ne_eqb, lt-ltb}
-use Rattle.bits.specs.Heard.{Heard, Got}
+use Rattle.bits.specs.Heard.{Got}
 use Rattle.transfer_theory.specs.Payload.{kind_of, file_of, number_of, body_of, length_of}
 use Rattle.transfer_theory.specs.Parts.{ask_payload, done_payload}
 use Rattle.transfer_theory.specs.Receiver.{Receiver, hears, filled_slot, with_length, empty_of, slot_at, complete, answers, first_gap, wanted}

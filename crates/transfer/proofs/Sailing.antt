@@ -1,10 +1,10 @@
 -- What the ship's code does at each of its ways is what the sender does. Assumes nothing.
-use Rattle.std.proofs.Common.{◌≡◌, ℕ, ◌+◌, ◌-◌, ◌*◌, ◌/◌, ◌<◌, ◌≤◌, min, ◌⊎◌, List, length, take, drop, sym, refl, ap, ◌∙◌, subst, inl, inr, arith, length-drop, take_all}
+use Rattle.std.proofs.Common.{◌≡◌, ℕ, ◌+◌, ◌-◌, ◌*◌, ◌<◌, ◌≤◌, min, List, length, take, drop, sym, ap, ◌∙◌, subst, inl, inr, arith, length-drop, take_all}
 use Rattle.std.proofs.lemmas.Bool.{cases_lt}
-use Rattle.bits.specs.Heard.{Heard, Got}
+use Rattle.bits.specs.Heard.{Got}
 use Rattle.transfer_theory.specs.Payload.{kind_of, file_of, number_of}
 use Rattle.transfer_theory.specs.Parts.{part, parts}
-use Rattle.transfer_theory.specs.Sender.{Sender, says, after_saying, told, with_place, finished}
+use Rattle.transfer_theory.specs.Sender.{Sender, told, with_place, finished}
 use Rattle.transfer_theory.proofs.Telling.{told-ask, told-past, told-done, told-other, told-foreign}
 
 -- all that is there, where that is less than is asked

@@ -1,10 +1,10 @@
 -- Memory as slots: what a write of a part and what clearing does to them. Assumes nothing.
-use Rattle.std.proofs.Common.{◌≡◌, ℕ, zero, suc, ◌+◌, ◌-◌, ◌*◌, ◌<◌, ◌≤◌, min, Bool, true, false, cond, eqb, ◌⊎◌, List, [], ◌∷◌, ◌++◌, length, get_or, take, drop, set, sym, refl, ap, ◌∙◌, subst, inl, inr, arith, length-set, length-take-le, get_or-set_other, get_or-set_same, take-take, take_at, drop-set-lt, ext_get_or, drop_at}
+use Rattle.std.proofs.Common.{◌≡◌, ℕ, zero, suc, ◌+◌, ◌-◌, ◌*◌, ◌<◌, ◌≤◌, Bool, true, false, cond, eqb, ◌⊎◌, List, ◌∷◌, ◌++◌, length, get_or, take, drop, set, sym, refl, ap, ◌∙◌, inl, inr, arith, length-set, length-take-le, get_or-set_other, get_or-set_same, take-take, take_at, drop-set-lt, ext_get_or, drop_at}
 use Rattle.std.proofs.lemmas.Bool.{cases_eq, cases_lt, cases_order, ne_eqb}
 use Rattle.transfer_theory.specs.Receiver.{Slot, Missing, Have, missing, empty_of, first_missing}
 use Rattle.transfer_theory.proofs.Slots.{first-gap, first-unique}
 use Rattle.transfer.specs.Memory.{slot_of, slot_in, slots_from, slots_of, overwritten, filled}
-use Rattle.transfer.proofs.Places.{stretch-same, length-overwritten, over-before, over-inside, over-behind}
+use Rattle.transfer.proofs.Places.{stretch-same, length-overwritten, over-before, over-behind}
 
 pub length-slots : (i n : ℕ) (m : List ℕ) → length (slots_from i n m) ≡ n
 unfolding slots_from

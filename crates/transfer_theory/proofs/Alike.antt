@@ -1,12 +1,12 @@
 -- A slot once filled stays, and what is not looked at does not matter. Assumes nothing.
-use Rattle.std.proofs.Common.{◌≡◌, ℕ, ◌+◌, ◌<◌, ◌≤◌, Bool, true, false, cond, ◌&&◌, eqb, ltb, ◌⊎◌, List, set, sym, refl, ap, ◌∙◌, subst, inl, inr, arith}
+use Rattle.std.proofs.Common.{◌≡◌, ℕ, ◌<◌, ◌≤◌, true, false, cond, ◌&&◌, eqb, ltb, ◌⊎◌, List, sym, ap, ◌∙◌, subst, inl, inr}
 use Rattle.std.proofs.lemmas.List.{get_or-set_other}
 use Rattle.std.proofs.lemmas.Bool.{and_parts, both_ways, cond_both, cases_eq, cases_lt, cases_Bool}
-use Rattle.bits.specs.Heard.{Heard, Lost, Got}
+use Rattle.bits.specs.Heard.{Lost, Got}
 use Rattle.transfer_theory.specs.Payload.{kind_of, file_of, number_of, body_of, length_of}
 use Rattle.transfer_theory.specs.Parts.{parts}
-use Rattle.transfer_theory.specs.Sender.{Sender, with_place, finished, told}
-use Rattle.transfer_theory.specs.Receiver.{Slot, Missing, Have, Receiver, empty_of, slot_at, brings_part, brings_end, filled_slot, with_length, hears}
+use Rattle.transfer_theory.specs.Sender.{Sender, with_place, told}
+use Rattle.transfer_theory.specs.Receiver.{Missing, Have, Receiver, empty_of, slot_at, brings_part, brings_end, filled_slot, with_length, hears}
 use Rattle.transfer_theory.specs.Orders.{FilledStays, Alike}
 use Rattle.transfer_theory.proofs.Hearing.{hears-part, hears-full, hears-past, hears-end, hears-long, hears-other, hears-foreign}
 use Rattle.transfer_theory.proofs.Telling.{told-ask, told-past, told-done, told-other, told-foreign}

@@ -1,15 +1,14 @@
 -- What the receiver answers and what the sender says; what each does at the other end. Assumes nothing.
-use Rattle.std.proofs.Common.{◌≡◌, ℕ, ◌+◌, ◌<◌, ◌≤◌, Bool, true, false, cond, T, eqb, ltb, ◌⊎◌, List, [], ◌∷◌, length, sym, refl, ap, ◌∙◌, subst, inl, inr, arith}
+use Rattle.std.proofs.Common.{◌≡◌, ℕ, ◌+◌, ◌<◌, ◌≤◌, Bool, true, false, cond, T, eqb, ltb, ◌⊎◌, List, [], sym, refl, ap, ◌∙◌, subst, inl, inr, arith}
 use Rattle.std.proofs.lemmas.Bool.{cases_eq, cases_Bool, cases_lt, cond-true, cond-false, and_from, eq-eqb, lt-ltb}
-use Rattle.bits.specs.Heard.{Heard, Lost, Got}
-use Rattle.transfer_theory.specs.Payload.{number_of}
+use Rattle.bits.specs.Heard.{Heard, Got}
 use Rattle.transfer_theory.specs.Parts.{parts, part_payload, end_payload, ask_payload, done_payload}
 use Rattle.transfer_theory.specs.Sender.{Sender, says, after_saying, told, with_place, finished}
-use Rattle.transfer_theory.specs.Receiver.{Slot, Missing, Receiver, empty_of, slot_at, first_gap, wanted, complete, answers}
+use Rattle.transfer_theory.specs.Receiver.{Receiver, empty_of, slot_at, first_gap, wanted, complete, answers}
 use Rattle.transfer_theory.specs.Invariant.{Received, AllThere, Sent, Back, Sends}
 use Rattle.transfer_theory.proofs.Payloads.{payload-reads}
 use Rattle.transfer_theory.proofs.Telling.{says-part, says-end, after-part, after-end, told-ask, told-done, told-foreign}
-use Rattle.transfer_theory.proofs.Slots.{First, first-gap, holds}
+use Rattle.transfer_theory.proofs.Slots.{first-gap, holds}
 use Rattle.transfer_theory.proofs.Receiving.{Honest, silent, sent, other, sized, wanted-is, complete-all}
 
 -- ---- the receiver's answer

@@ -1,12 +1,12 @@
 -- The cases at the edges, from the general lemmas. Assumes nothing.
-use Rattle.std.proofs.Common.{◌≡◌, ℕ, zero, suc, ◌+◌, ◌-◌, ◌*◌, ◌/◌, ◌<◌, ◌≤◌, min, Bool, true, false, cond, ◌&&◌, T, eqb, ltb, ◌⊎◌, List, [], ◌∷◌, ◌++◌, length, get_or, take, drop, sym, refl, ap, ◌∙◌, subst, inl, inr, arith, length-drop, take_all, drop-cons}
-use Rattle.bits.specs.Heard.{Heard, Got}
-use Rattle.transfer_theory.specs.Parts.{IsFile, part, parts, part_payload, end_payload, ask_payload}
-use Rattle.transfer_theory.specs.Receiver.{Slot, Missing, Have, Receiver, new_receiver, missing, first_missing, joined, empty_of, slot_at, hears, complete, handed, answers, filled_slot, with_length}
+use Rattle.std.proofs.Common.{◌≡◌, ℕ, zero, suc, ◌+◌, ◌-◌, ◌/◌, ◌<◌, Bool, true, false, cond, ◌⊎◌, List, [], ◌∷◌, length, get_or, take, drop, sym, refl, ap, ◌∙◌, inl, inr, arith, length-drop, take_all, drop-cons}
+use Rattle.bits.specs.Heard.{Got}
+use Rattle.transfer_theory.specs.Parts.{part, part_payload, end_payload, ask_payload}
+use Rattle.transfer_theory.specs.Receiver.{Receiver, new_receiver, first_missing, joined, empty_of, slot_at, hears, complete, handed, answers, with_length}
 use Rattle.transfer_theory.specs.Invariant.{Received}
 use Rattle.transfer_theory.specs.Cases.{EmptyFile, LastPart, Gap, CasesHold}
-use Rattle.transfer_theory.proofs.Slots.{missing_at, length-missing}
-use Rattle.transfer_theory.proofs.Receiving.{hears-file-part, hears-file-end, received-new, received-filled, received-length, part-comes, Came, Brought}
+use Rattle.transfer_theory.proofs.Slots.{missing_at}
+use Rattle.transfer_theory.proofs.Receiving.{hears-file-end, received-new, received-length, part-comes, Came}
 use Rattle.transfer_theory.proofs.Answering.{answer, Asking, Telling}
 
 after-end : (n : ℕ) → hears (Got (end_payload n [])) (new_receiver n) ≡ with_length 0 (new_receiver n)

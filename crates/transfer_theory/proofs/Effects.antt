@@ -1,14 +1,14 @@
 -- What hearing a payload of the file fills and leaves, slot by slot; and that twice is once. Assumes nothing.
-use Rattle.std.proofs.Common.{◌≡◌, ℕ, ◌+◌, ◌<◌, ◌≤◌, Bool, true, false, ◌⊎◌, List, [], ◌∷◌, length, set, sym, refl, ap, ◌∙◌, subst, inl, inr, arith, set-set}
+use Rattle.std.proofs.Common.{◌≡◌, ℕ, ◌+◌, ◌<◌, ◌≤◌, true, false, ◌⊎◌, List, length, sym, ap, ◌∙◌, subst, inl, inr, set-set}
 use Rattle.std.proofs.lemmas.Bool.{cases_eq, cases_Bool, cases_lt}
-use Rattle.bits.specs.Heard.{Heard, Got}
+use Rattle.bits.specs.Heard.{Got}
 use Rattle.transfer_theory.specs.Payload.{kind_of, file_of, number_of, body_of, length_of}
 use Rattle.transfer_theory.specs.Parts.{parts, part_payload, end_payload}
 use Rattle.transfer_theory.specs.Receiver.{Slot, Have, Receiver, receiver_of, filled_slot, with_length, empty_of, slot_at, hears}
 use Rattle.transfer_theory.specs.Invariant.{Received, Sent}
 use Rattle.transfer_theory.specs.Orders.{TwiceIsOnce}
 use Rattle.transfer_theory.proofs.Hearing.{hears-part, hears-full, hears-past, hears-end, hears-long, hears-other, hears-foreign}
-use Rattle.transfer_theory.proofs.Receiving.{part-comes, hears-file-end, hears-sent, brought-stays}
+use Rattle.transfer_theory.proofs.Receiving.{part-comes, hears-file-end, brought-stays}
 
 -- ---- twice is once
 again : (p : List ℕ) (v : Receiver) → hears (Got p) v ≡ v → hears (Got p) (hears (Got p) v) ≡ hears (Got p) v

@@ -1,16 +1,15 @@
 -- A bad evening: what lies between good pairs of rounds takes nothing away, and each pair brings something. Assumes nothing.
-use Rattle.std.proofs.Common.{◌≡◌, ℕ, zero, suc, ◌+◌, ◌-◌, ◌<◌, ◌≤◌, Bool, true, false, T, ◌⊎◌, List, [], ◌∷◌, length, sym, refl, ap, ◌∙◌, subst, inl, inr, arith}
+use Rattle.std.proofs.Common.{◌≡◌, ℕ, zero, suc, ◌+◌, ◌-◌, ◌<◌, ◌≤◌, Bool, true, false, T, ◌⊎◌, List, length, sym, refl, ap, ◌∙◌, subst, inl, inr, arith}
 use Rattle.std.proofs.lemmas.Bool.{cases_lt}
-use Rattle.bits.specs.Heard.{Heard, Lost, Got}
+use Rattle.bits.specs.Heard.{Heard, Got}
 use Rattle.transfer_theory.specs.Parts.{IsFile, parts}
-use Rattle.transfer_theory.specs.Sender.{Sender, says, after_saying, told}
+use Rattle.transfer_theory.specs.Sender.{Sender, after_saying, told}
 use Rattle.transfer_theory.specs.Receiver.{Receiver, hears, empty_of, slot_at}
 use Rattle.transfer_theory.specs.World.{World, step, Says, Asks, Down, Up, fair, Run}
 use Rattle.transfer_theory.specs.World as world
 use Rattle.transfer_theory.specs.Invariant.{Received, Sent, Back, Sends, Good}
 use Rattle.transfer_theory.specs.Onward.{Faithful, Arrived}
-use Rattle.transfer_theory.specs.Rounds.{Round}
-use Rattle.transfer_theory.specs.Evening.{Meanwhile, nothing, spoke, replied, below, above, Evening, dusk, spell, pair, EveningEnds, EveningFair}
+use Rattle.transfer_theory.specs.Evening.{Meanwhile, nothing, spoke, replied, below, above, Evening, dusk, spell, pair}
 use Rattle.transfer_theory.proofs.Slots.{is_true}
 use Rattle.transfer_theory.proofs.Hearing.{hears-lost, hears-foreign}
 use Rattle.transfer_theory.proofs.Telling.{told-lost, told-foreign}
@@ -23,7 +22,7 @@ use Rattle.transfer_theory.proofs.Counting.{gaps, gaps-most, gaps-next, gaps-les
 use Rattle.transfer_theory.proofs.Turns.{Turn, turn-done, round-then, round-moves}
 use Rattle.transfer_theory.proofs.Phases.{gaps_in, gaps_of, Phase, settled, synced, sized, early, phase-turn, phase-over}
 use Rattle.transfer_theory.proofs.Effects.{hears-keeps-filled}
-use Rattle.transfer_theory.proofs.Fresh.{Fresh, run-fresh, size-stays, quiet_told}
+use Rattle.transfer_theory.proofs.Fresh.{run-fresh, size-stays, quiet_told}
 
 -- ---- k more pairs suffice: as with rounds, but wherever the sender is
 pub data Left (f : List ℕ) (k : ℕ) (w : World) : Type 0 where

@@ -1,17 +1,16 @@
 -- What follows when frames that were sent come: it can come about, and there is always a way on; the same with bits beneath. Assumes nothing.
-use Rattle.std.proofs.Common.{◌≡◌, ℕ, ◌+◌, ◌<◌, ◌≤◌, Bool, true, false, cond, ◌&&◌, ◌||◌, T, eqb, ltb, ◌⊎◌, List, [], ◌∷◌, length, sym, refl, ap, ◌∙◌, subst, inl, inr, arith}
-use Rattle.std.proofs.lemmas.Bool.{and_from, or_left, or_right, eq-eqb, ltb-true, cond-true}
-use Rattle.bits.specs.Lists.{are_bits}
+use Rattle.std.proofs.Common.{◌≡◌, ℕ, ◌<◌, ◌≤◌, Bool, true, ◌||◌, T, eqb, ltb, List, [], ◌∷◌, sym, refl, ap, ◌∙◌, subst, arith}
+use Rattle.std.proofs.lemmas.Bool.{and_from, or_left, eq-eqb, ltb-true, cond-true}
 use Rattle.bits.specs.Distance.{distance}
 use Rattle.bits.proofs.Hamming.{distance_self}
-use Rattle.bits.specs.Heard.{Heard, Lost, Got}
-use Rattle.transfer_theory.specs.Parts.{IsFile, parts}
+use Rattle.bits.specs.Heard.{Heard, Got}
+use Rattle.transfer_theory.specs.Parts.{IsFile}
 use Rattle.transfer_theory.specs.Sender.{says}
 use Rattle.transfer_theory.specs.Receiver.{answers}
 use Rattle.transfer_theory.specs.World.{World, step, Says, Asks, Down, Up, same_bytes, is_in, foreign, fair, Run, RunBits}
 use Rattle.transfer_theory.specs.World as world
 use Rattle.transfer_theory.specs.Invariant.{Good}
-use Rattle.transfer_theory.specs.Onward.{IsPayload, Faithful, Carries, Arrived, Plays, arrived, forth, back, Then, here, spoke, replied, below, above, SaysPayloads, StaysFair, WayOn, Onward, Whole, WholeLine, Comes, Harmless, Framed, OnwardBits}
+use Rattle.transfer_theory.specs.Onward.{IsPayload, Faithful, Carries, Arrived, Plays, arrived, forth, back, Then, here, spoke, replied, below, above, SaysPayloads, WayOn, Onward, Whole, WholeLine, Comes, Harmless, Framed, OnwardBits}
 use Rattle.transfer_theory.proofs.Slots.{is_true, holds}
 use Rattle.transfer_theory.proofs.Answering.{says-sent, answers-back}
 use Rattle.transfer_theory.proofs.Safety.{run-good}

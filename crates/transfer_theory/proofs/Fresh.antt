@@ -1,12 +1,12 @@
 -- Before a length is heard nothing went back, and nothing that was not yet said is there. Assumes nothing.
-use Rattle.std.proofs.Common.{◌≡◌, ℕ, ◌+◌, ◌<◌, ◌≤◌, Bool, true, false, ◌&&◌, T, ltb, ◌⊎◌, List, [], ◌∷◌, length, sym, refl, ap, ◌∙◌, subst, inl, inr, arith}
-use Rattle.std.proofs.lemmas.Bool.{cases_lt, cases_eq, and_parts, cond-false, le-ltb}
-use Rattle.bits.specs.Heard.{Heard, Lost, Got}
+use Rattle.std.proofs.Common.{◌≡◌, ℕ, ◌+◌, ◌<◌, ◌≤◌, Bool, true, T, ltb, ◌⊎◌, List, [], ◌∷◌, length, sym, ap, ◌∙◌, subst, inl, inr, arith}
+use Rattle.std.proofs.lemmas.Bool.{cases_lt, and_parts, cond-false, le-ltb}
+use Rattle.bits.specs.Heard.{Heard, Got}
 use Rattle.transfer_theory.specs.Parts.{parts, part_payload, end_payload}
 use Rattle.transfer_theory.specs.Sender.{Sender, says, after_saying, told}
 use Rattle.transfer_theory.specs.Receiver.{Receiver, hears, answers, empty_of, slot_at}
 use Rattle.transfer_theory.specs.World.{World, start, step, Says, Asks, Down, Up, is_in, fair, Run, begins, spoke, replied, below, above}
-use Rattle.transfer_theory.specs.Invariant.{Received, Sent, Back, Good}
+use Rattle.transfer_theory.specs.Invariant.{Received, Sent, Good}
 use Rattle.transfer_theory.proofs.Slots.{missing_at}
 use Rattle.transfer_theory.proofs.Hearing.{hears-lost, hears-foreign}
 use Rattle.transfer_theory.proofs.Telling.{told-lost, told-foreign}

@@ -1,9 +1,9 @@
 -- What hearing a payload does to the receiver, case by case: all that is above uses these equations only. Assumes nothing.
-use Rattle.std.proofs.Common.{◌≡◌, ℕ, ◌+◌, ◌<◌, ◌≤◌, Bool, true, false, cond, ◌&&◌, eqb, ltb, leb, List, sym, refl, ap, ◌∙◌}
+use Rattle.std.proofs.Common.{◌≡◌, ℕ, ◌<◌, ◌≤◌, true, false, cond, ◌&&◌, eqb, ltb, leb, List, refl, ap, ◌∙◌}
 use Rattle.std.proofs.lemmas.Bool.{and_from, and_left, and_right, cond-true, cond-false, eq-eqb, ne_eqb, lt-ltb, le-ltb, le-leb, lt-leb}
-use Rattle.bits.specs.Heard.{Heard, Lost, Got}
+use Rattle.bits.specs.Heard.{Lost, Got}
 use Rattle.transfer_theory.specs.Payload.{kind_of, file_of, number_of, body_of, length_of}
-use Rattle.transfer_theory.specs.Receiver.{Receiver, Slot, Missing, Have, empty_of, slot_at, hears, brings_part, brings_end, filled_slot, with_length}
+use Rattle.transfer_theory.specs.Receiver.{Receiver, empty_of, slot_at, hears, brings_part, brings_end, filled_slot, with_length}
 
 pub hears-lost : (v : Receiver) → hears Lost v ≡ v
 unfolding hears

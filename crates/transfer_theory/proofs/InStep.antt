@@ -1,15 +1,15 @@
 -- Rounds in a row: parts + 1 of them end it, parts from the start do not, and more change nothing. Assumes nothing.
-use Rattle.std.proofs.Common.{◌≡◌, ℕ, zero, suc, ◌+◌, ◌-◌, ◌<◌, ◌≤◌, Bool, true, false, ◌&&◌, T, eqb, ltb, ◌⊎◌, List, [], ◌∷◌, length, sym, refl, ap, ◌∙◌, subst, inl, inr, arith}
+use Rattle.std.proofs.Common.{◌≡◌, ℕ, suc, ◌+◌, ◌<◌, ◌≤◌, true, false, T, eqb, ltb, ◌⊎◌, List, sym, refl, ap, ◌∙◌, subst, inl, inr, arith}
 use Rattle.std.proofs.lemmas.Bool.{cases_eq, and_left, le-ltb}
 use Rattle.bits.specs.Heard.{Heard}
 use Rattle.transfer_theory.specs.Parts.{IsFile, parts}
-use Rattle.transfer_theory.specs.Receiver.{Receiver, receiver_of, empty_of, slot_at, complete, first_gap, wanted}
+use Rattle.transfer_theory.specs.Receiver.{receiver_of, empty_of, slot_at, complete, first_gap, wanted}
 use Rattle.transfer_theory.specs.World.{World, start, Run}
 use Rattle.transfer_theory.specs.Invariant.{AllThere, Good}
-use Rattle.transfer_theory.specs.Onward.{Faithful, Carries, Arrived}
-use Rattle.transfer_theory.specs.Rounds.{Round, Rounds, none, more, EndsInTime, NotBefore, StaysArrived, Lockstep}
+use Rattle.transfer_theory.specs.Onward.{Faithful, Arrived}
+use Rattle.transfer_theory.specs.Rounds.{Rounds, none, more, Lockstep}
 use Rattle.transfer_theory.proofs.Safety.{good_start, run-good}
-use Rattle.transfer_theory.proofs.Moves.{Forth, Backward, PartMove, EndMove, DoneMove, AskMove, all-arrived}
+use Rattle.transfer_theory.proofs.Moves.{Forth, Backward, all-arrived}
 use Rattle.transfer_theory.proofs.Sameness.{received-same}
 use Rattle.transfer_theory.proofs.Turns.{Turn, turn-done, round-moves, rounds-run, rounds-played}
 use Rattle.transfer_theory.proofs.Phases.{Phase, phase-turn, phase-any, phase-over}

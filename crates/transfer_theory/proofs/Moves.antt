@@ -1,15 +1,15 @@
 -- What one frame that comes does to both sides, forth and back: all that is said of ways on and of rounds uses these moves only. Assumes nothing.
-use Rattle.std.proofs.Common.{◌≡◌, ℕ, ◌+◌, ◌<◌, ◌≤◌, Bool, true, false, T, ltb, ◌⊎◌, List, [], ◌∷◌, length, sym, refl, ap, ◌∙◌, subst, inl, inr, arith}
-use Rattle.std.proofs.lemmas.Bool.{cases_lt, ltb-true, both_ways}
+use Rattle.std.proofs.Common.{◌≡◌, ℕ, ◌+◌, ◌<◌, ◌≤◌, T, ◌⊎◌, List, length, sym, refl, ap, ◌∙◌, subst, inl, inr, arith}
+use Rattle.std.proofs.lemmas.Bool.{cases_lt}
 use Rattle.bits.specs.Heard.{Heard, Got}
-use Rattle.transfer_theory.specs.Parts.{IsFile, parts, part_payload, end_payload, ask_payload, done_payload}
-use Rattle.transfer_theory.specs.Sender.{Sender, says, after_saying, told, with_place, finished}
-use Rattle.transfer_theory.specs.Receiver.{Receiver, hears, answers, with_length, empty_of, slot_at}
+use Rattle.transfer_theory.specs.Parts.{IsFile, parts}
+use Rattle.transfer_theory.specs.Sender.{Sender, says, told}
+use Rattle.transfer_theory.specs.Receiver.{hears, answers, with_length}
 use Rattle.transfer_theory.specs.World.{World, step, Says, Asks, Down, Up}
-use Rattle.transfer_theory.specs.Invariant.{AllThere, Sent, Good}
-use Rattle.transfer_theory.specs.Onward.{IsPayload, Faithful, Arrived}
-use Rattle.transfer_theory.proofs.Slots.{is_true, holds}
-use Rattle.transfer_theory.proofs.Receiving.{Honest, sent, Came, Brought, part-comes, hears-file-end, all-complete, all-handed}
+use Rattle.transfer_theory.specs.Invariant.{AllThere, Good}
+use Rattle.transfer_theory.specs.Onward.{Faithful, Arrived}
+use Rattle.transfer_theory.proofs.Slots.{holds}
+use Rattle.transfer_theory.proofs.Receiving.{sent, Brought, part-comes, hears-file-end, all-complete, all-handed}
 use Rattle.transfer_theory.proofs.Answering.{Asking, Telling, answer, answers-back, says-sent, says-file-part, says-file-end, after-file-part, after-file-end, told-file-ask, told-file-done}
 use Rattle.transfer_theory.proofs.Safety.{good-says, good-answers, good-hears, good-told}
 use Rattle.transfer_theory.proofs.Sizes.{sent-payload, back-payload}

@@ -2,8 +2,8 @@
 use Rattle.std.proofs.Common.{◌≡◌, ℕ, ◌+◌, ◌<◌, ◌≤◌, Bool, true, false, cond, ◌||◌, T, ◌⊎◌, List, [], ◌∷◌, length, sym, refl, ap, ◌∙◌, subst, inl, inr, arith}
 use Rattle.std.proofs.lemmas.Bool.{cases_Bool, both_ways, or_right, cond-true, cond-false}
 use Rattle.bits.specs.Heard.{Got}
-use Rattle.transfer_theory.specs.Parts.{IsFile, part, parts, part_payload, end_payload}
-use Rattle.transfer_theory.specs.Receiver.{Slot, Missing, Have, Receiver, new_receiver, empty_of, slot_at, hears, complete, handed}
+use Rattle.transfer_theory.specs.Parts.{part, parts, part_payload, end_payload}
+use Rattle.transfer_theory.specs.Receiver.{Missing, Have, Receiver, new_receiver, empty_of, slot_at, hears}
 use Rattle.transfer_theory.specs.World.{is_in, same_bytes}
 use Rattle.transfer_theory.specs.Invariant.{Received, AllThere, Sent}
 use Rattle.transfer_theory.specs.Orders.{hears_all, AllSent, OrderIsNothing, SlotHolds, AllIsEnough, CompleteForGood, HearingLaws}

@@ -1,20 +1,19 @@
 -- Two good rounds in a row end it, or bring a part that was missing; and all that is promised of a bad evening. Assumes nothing.
-use Rattle.std.proofs.Common.{◌≡◌, ℕ, zero, suc, ◌+◌, ◌<◌, ◌≤◌, Bool, true, false, T, ◌⊎◌, List, [], ◌∷◌, length, sym, refl, ap, ◌∙◌, subst, inl, inr, arith}
+use Rattle.std.proofs.Common.{◌≡◌, ℕ, zero, suc, ◌+◌, ◌<◌, ◌≤◌, true, false, T, ◌⊎◌, List, length, sym, refl, ap, ◌∙◌, subst, inl, inr, arith}
 use Rattle.std.proofs.lemmas.Bool.{cases_Bool, both_ways}
 use Rattle.bits.specs.Heard.{Heard}
 use Rattle.transfer_theory.specs.Parts.{IsFile, parts}
 use Rattle.transfer_theory.specs.Receiver.{Receiver, empty_of, slot_at}
 use Rattle.transfer_theory.specs.World.{World, Run}
-use Rattle.transfer_theory.specs.Invariant.{Good}
 use Rattle.transfer_theory.specs.Onward.{Faithful, Carries, Arrived}
 use Rattle.transfer_theory.specs.Evening.{Evening, dusk, pair, PairBrings, BadEvening}
 use Rattle.transfer_theory.proofs.Receiving.{brought-stays}
 use Rattle.transfer_theory.proofs.Safety.{run-good}
-use Rattle.transfer_theory.proofs.Moves.{Forth, Backward, PartMove, EndMove, DoneMove, AskMove, all-arrived}
+use Rattle.transfer_theory.proofs.Moves.{Forth, Backward, all-arrived}
 use Rattle.transfer_theory.proofs.Turns.{Turn, turn-done, round-then, round-moves, round-played}
 use Rattle.transfer_theory.proofs.Following.{then-run}
 use Rattle.transfer_theory.proofs.Phases.{end-size}
-use Rattle.transfer_theory.proofs.Fresh.{Fresh, run-fresh}
+use Rattle.transfer_theory.proofs.Fresh.{run-fresh}
 use Rattle.transfer_theory.proofs.Evenings.{evening-run, evening-ends}
 
 -- the sender is at a gap

@@ -1,8 +1,8 @@
 -- What is read of a payload is what it was built of. Assumes nothing.
-use Rattle.std.proofs.Common.{◌≡◌, ℕ, zero, suc, ◌+◌, ◌-◌, ◌*◌, ◌/◌, ◌%◌, ◌^◌, ◌<◌, ◌≤◌, min, true, T, List, [], ◌∷◌, ◌++◌, length, get_or, take, drop, sym, refl, ap, ◌∙◌, subst, append_assoc, append-nil, arith, length-append, length-take, take-take, take_at}
+use Rattle.std.proofs.Common.{◌≡◌, ℕ, ◌+◌, ◌-◌, ◌*◌, ◌/◌, ◌%◌, ◌^◌, ◌<◌, ◌≤◌, List, [], ◌∷◌, ◌++◌, length, take, sym, refl, ap, ◌∙◌, append_assoc, arith, take_at}
 use native.Mathlib.Nat.{div-div-eq-div-mul}
 use lib.Seq.{take-append-add}
-use Rattle.bits.specs.Lists.{zeros, are_bytes, under}
+use Rattle.bits.specs.Lists.{zeros}
 use Rattle.transfer_theory.specs.Payload.{filled, built, payload, at, kind_of, file_of, number_of, body_of, length_of}
 use Rattle.transfer_theory.specs.Parts.{length4}
 

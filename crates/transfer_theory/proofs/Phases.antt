@@ -1,11 +1,11 @@
 -- How many rounds are still wanted, from the gaps: each round that comes through makes it one less. Assumes nothing.
-use Rattle.std.proofs.Common.{◌≡◌, ℕ, zero, suc, ◌+◌, ◌-◌, ◌<◌, ◌≤◌, Bool, true, false, T, ◌⊎◌, List, [], ◌∷◌, length, sym, refl, ap, ◌∙◌, subst, inl, inr, arith}
+use Rattle.std.proofs.Common.{◌≡◌, ℕ, suc, ◌+◌, ◌-◌, ◌<◌, ◌≤◌, true, T, ◌⊎◌, List, length, sym, ap, ◌∙◌, subst, inl, inr, arith}
 use Rattle.transfer_theory.specs.Parts.{parts}
 use Rattle.transfer_theory.specs.Receiver.{Receiver, empty_of, slot_at}
 use Rattle.transfer_theory.specs.World.{World}
 use Rattle.transfer_theory.specs.Invariant.{Good}
 use Rattle.transfer_theory.proofs.Receiving.{brought-stays}
-use Rattle.transfer_theory.proofs.Moves.{Forth, Backward, PartMove, EndMove, DoneMove, AskMove}
+use Rattle.transfer_theory.proofs.Moves.{Forth, Backward, PartMove, EndMove}
 use Rattle.transfer_theory.proofs.Counting.{gaps, gaps-full, gaps-most, gaps-less, gaps-fewer, gaps-some}
 use Rattle.transfer_theory.proofs.Turns.{Turn, turn-done}
 

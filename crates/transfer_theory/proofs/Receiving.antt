@@ -1,14 +1,14 @@
 -- The receiver's half of the invariant: it speaks of what was sent only. Assumes nothing.
-use Rattle.std.proofs.Common.{◌≡◌, ℕ, zero, suc, ◌+◌, ◌-◌, ◌*◌, ◌/◌, ◌^◌, ◌<◌, ◌≤◌, Bool, true, false, cond, T, eqb, ltb, ◌≢◌, ◌⊎◌, List, [], ◌∷◌, ◌++◌, length, get_or, take, drop, set, sym, refl, ap, ◌∙◌, subst, inl, inr, arith, length-set, length-take, take_all, get_or-set_other, get_or-set_same}
+use Rattle.std.proofs.Common.{◌≡◌, ℕ, ◌+◌, ◌-◌, ◌*◌, ◌/◌, ◌<◌, ◌≤◌, Bool, true, false, cond, T, ◌⊎◌, List, length, get_or, take, drop, sym, refl, ap, ◌∙◌, subst, inl, inr, arith, length-set, length-take, take_all, get_or-set_other, get_or-set_same}
 use Rattle.std.proofs.lemmas.Bool.{cases_eq, cases_Bool}
 use Rattle.bits.specs.Heard.{Heard, Lost, Got}
-use Rattle.transfer_theory.specs.Payload.{kind_of, file_of, number_of, body_of, length_of}
-use Rattle.transfer_theory.specs.Parts.{IsFile, part, parts, length4, part_payload, end_payload}
+use Rattle.transfer_theory.specs.Payload.{file_of, body_of, length_of}
+use Rattle.transfer_theory.specs.Parts.{part, parts, length4, part_payload, end_payload}
 use Rattle.transfer_theory.specs.Receiver.{Slot, Missing, Have, Receiver, new_receiver, filled_slot, with_length, empty_of, slot_at, hears, wanted, complete, joined, handed}
 use Rattle.transfer_theory.specs.Invariant.{PartRight, Received, AllThere, Sent}
 use Rattle.transfer_theory.proofs.Payloads.{payload-reads, length-reads}
 use Rattle.transfer_theory.proofs.Hearing.{hears-part, hears-full, hears-end, hears-foreign}
-use Rattle.transfer_theory.proofs.Slots.{length-missing, missing_at, Full, complete-full, full-complete, joined_is, holds}
+use Rattle.transfer_theory.proofs.Slots.{length-missing, missing_at, complete-full, full-complete, joined_is}
 
 pub part-short : (f : List ℕ) (i : ℕ) → length (part f i) ≤ 214
 part-short f i = omega (arith, length-take 214 (drop (214 * i) f))

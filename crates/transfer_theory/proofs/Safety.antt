@@ -1,13 +1,12 @@
 -- The invariant, kept by each operation and so by every run; and the file promise. Assumes nothing.
-use Rattle.std.proofs.Common.{◌≡◌, ℕ, ◌+◌, ◌<◌, ◌≤◌, Bool, true, false, cond, not, ◌&&◌, ◌||◌, T, eqb, ltb, ◌⊎◌, List, [], ◌∷◌, length, sym, refl, ap, ◌∙◌, subst, inl, inr, arith}
-use Rattle.std.proofs.lemmas.Bool.{cases_Bool, cases_lt, and_parts, or_cases, eqb-true, eqb-false, not-true, ltb-true, cond-true, cond-false}
+use Rattle.std.proofs.Common.{◌≡◌, ℕ, ◌≤◌, Bool, true, false, cond, not, ◌||◌, T, eqb, ltb, ◌⊎◌, List, [], ◌∷◌, length, sym, refl, ap, ◌∙◌, subst, inl, inr, arith}
+use Rattle.std.proofs.lemmas.Bool.{cases_Bool, and_parts, or_cases, eqb-true, eqb-false, not-true, ltb-true, cond-true, cond-false}
 use Rattle.bits.specs.Heard.{Heard, Lost, Got}
 use Rattle.transfer_theory.specs.Payload.{file_of}
-use Rattle.transfer_theory.specs.Parts.{IsFile, parts}
-use Rattle.transfer_theory.specs.Sender.{Sender, says, after_saying, told}
-use Rattle.transfer_theory.specs.Receiver.{Receiver, new_receiver, hears, answers, complete, handed, slot_at}
-use Rattle.transfer_theory.specs.World.{World, start, step, Event, Says, Asks, Down, Up, same_bytes, is_in, true_to, foreign, fair, Run, begins, spoke, replied, below, above}
-use Rattle.transfer_theory.specs.Invariant.{Received, AllThere, Sent, Back, Sends, Good}
+use Rattle.transfer_theory.specs.Sender.{says, after_saying, told}
+use Rattle.transfer_theory.specs.Receiver.{Receiver, hears, answers, complete}
+use Rattle.transfer_theory.specs.World.{World, start, step, Says, Asks, Down, Up, same_bytes, is_in, fair, Run, begins, spoke, replied, below, above}
+use Rattle.transfer_theory.specs.Invariant.{AllThere, Sent, Back, Good}
 use Rattle.transfer_theory.specs.Promise.{FileRight, ForeignIsNothing, LengthRight, CompleteStays}
 use Rattle.transfer_theory.proofs.Hearing.{hears-foreign}
 use Rattle.transfer_theory.proofs.Telling.{told-foreign}

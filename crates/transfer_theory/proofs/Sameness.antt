@@ -1,6 +1,5 @@
 -- Two receivers of one file that have the same parts, and both a length or none, are equal. Assumes nothing.
-use Rattle.std.proofs.Common.{◌≡◌, ℕ, ◌+◌, ◌<◌, ◌≤◌, Bool, true, false, cond, ◌⊎◌, List, [], ◌∷◌, length, get_or, sym, refl, ap, ◌∙◌, subst, inl, inr, arith, ext_get_or}
-use Rattle.transfer_theory.specs.Parts.{part}
+use Rattle.std.proofs.Common.{◌≡◌, ℕ, ◌<◌, Bool, cond, List, sym, refl, ap, ◌∙◌, arith, ext_get_or}
 use Rattle.transfer_theory.specs.Receiver.{Slot, Missing, Have, Receiver, receiver_of, empty_of, slot_at}
 use Rattle.transfer_theory.specs.Invariant.{PartRight, Received}
 

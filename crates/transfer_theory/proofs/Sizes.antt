@@ -1,9 +1,9 @@
 -- Every payload that is built has 221 bytes, and so has everything that either side says. Assumes nothing.
-use Rattle.std.proofs.Common.{◌≡◌, ℕ, ◌+◌, ◌-◌, ◌*◌, ◌/◌, ◌%◌, ◌<◌, ◌≤◌, min, T, ◌⊎◌, List, [], ◌∷◌, ◌++◌, length, take, drop, sym, refl, ap, ◌∙◌, subst, inl, inr, arith, length-append, length-take}
-use Rattle.bits.specs.Lists.{zeros, are_bytes, under}
+use Rattle.std.proofs.Common.{◌≡◌, ℕ, ◌+◌, ◌*◌, ◌/◌, ◌%◌, ◌<◌, ◌≤◌, T, List, [], ◌∷◌, ◌++◌, length, drop, sym, ap, ◌∙◌, subst, inl, inr, arith, length-append, length-take}
+use Rattle.bits.specs.Lists.{zeros, are_bytes}
 use Rattle.bits.proofs.Tests.{under-nil, under-cons, under-append, under-take, under_drop, length-zeros, under-zeros}
 use Rattle.transfer_theory.specs.Payload.{filled, built, payload}
-use Rattle.transfer_theory.specs.Parts.{IsFile, part, parts, length4, part_payload, end_payload, ask_payload, done_payload}
+use Rattle.transfer_theory.specs.Parts.{IsFile, part, parts, length4}
 use Rattle.transfer_theory.specs.Receiver.{Receiver}
 use Rattle.transfer_theory.specs.Invariant.{Sent, Back}
 use Rattle.transfer_theory.specs.Onward.{IsPayload}

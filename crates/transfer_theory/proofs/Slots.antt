@@ -1,8 +1,8 @@
 -- Slots: the first empty one, when all are there, and what they hold together. Assumes nothing.
-use Rattle.std.proofs.Common.{◌≡◌, ℕ, zero, suc, ◌+◌, ◌-◌, ◌*◌, ◌/◌, ◌<◌, ◌≤◌, Bool, true, false, cond, ◌&&◌, T, eqb, ltb, ◌⊎◌, List, [], ◌∷◌, ◌++◌, length, get_or, take, drop, set, sym, refl, ap, ◌∙◌, subst, inl, inr, arith, take_all, drop-drop, take-add}
-use Rattle.std.proofs.lemmas.Bool.{and_parts, and_from, and_right, eqb-true, eq-eqb, ne_eqb, ltb-true, lt-ltb, cases_lt, cases_order}
-use Rattle.transfer_theory.specs.Parts.{part, parts}
-use Rattle.transfer_theory.specs.Receiver.{Slot, Missing, Have, Receiver, missing, empty_of, slot_at, first_missing, first_gap, wanted, complete, joined, handed}
+use Rattle.std.proofs.Common.{◌≡◌, ℕ, zero, suc, ◌+◌, ◌*◌, ◌<◌, ◌≤◌, Bool, true, false, cond, T, eqb, ltb, ◌⊎◌, List, [], ◌∷◌, ◌++◌, length, get_or, take, drop, sym, refl, ap, ◌∙◌, subst, inl, inr, arith, drop-drop, take-add}
+use Rattle.std.proofs.lemmas.Bool.{and_parts, and_from, eqb-true, eq-eqb, ltb-true, lt-ltb, cases_lt, cases_order}
+use Rattle.transfer_theory.specs.Parts.{part}
+use Rattle.transfer_theory.specs.Receiver.{Slot, Missing, Have, Receiver, missing, empty_of, slot_at, first_missing, first_gap, wanted, complete, joined}
 
 -- tests as facts
 pub is_true : (b : Bool) → T b → b ≡ true

@@ -1,17 +1,16 @@
 -- The strategy: say all that is left and the end, ask, say from the first gap on, and ask again. Assumes nothing.
-use Rattle.std.proofs.Common.{◌≡◌, ℕ, zero, suc, ◌+◌, ◌-◌, ◌<◌, ◌≤◌, Bool, true, false, T, ltb, ◌⊎◌, List, [], ◌∷◌, length, sym, refl, ap, ◌∙◌, subst, inl, inr, arith}
+use Rattle.std.proofs.Common.{◌≡◌, ℕ, zero, suc, ◌+◌, ◌-◌, ◌<◌, ◌≤◌, false, ltb, ◌⊎◌, List, length, sym, refl, ap, ◌∙◌, subst, inl, inr, arith}
 use Rattle.std.proofs.lemmas.Bool.{cases_lt, cases_eq, lt-ltb, both_ways}
-use Rattle.bits.specs.Heard.{Heard, Got}
+use Rattle.bits.specs.Heard.{Heard}
 use Rattle.transfer_theory.specs.Parts.{IsFile, parts}
-use Rattle.transfer_theory.specs.Sender.{says}
-use Rattle.transfer_theory.specs.Receiver.{Receiver, answers, with_length, empty_of, slot_at}
-use Rattle.transfer_theory.specs.World.{World, Run}
+use Rattle.transfer_theory.specs.Receiver.{Receiver, empty_of, slot_at}
+use Rattle.transfer_theory.specs.World.{World}
 use Rattle.transfer_theory.specs.Invariant.{AllThere, Good}
-use Rattle.transfer_theory.specs.Onward.{Faithful, Arrived, Plays, arrived, forth, back, StrategyWins}
+use Rattle.transfer_theory.specs.Onward.{Faithful, Plays, arrived, forth, back, StrategyWins}
 use Rattle.transfer_theory.proofs.Slots.{holds}
 use Rattle.transfer_theory.proofs.Receiving.{brought-stays}
 use Rattle.transfer_theory.proofs.Safety.{run-good}
-use Rattle.transfer_theory.proofs.Moves.{Forth, PartMove, EndMove, Backward, DoneMove, AskMove, forth_by, back_by, forth-moves, back-moves, all-arrived}
+use Rattle.transfer_theory.proofs.Moves.{Forth, PartMove, Backward, forth_by, back_by, forth-moves, back-moves, all-arrived}
 
 -- with more frames it wins too
 pub plays-more : (C : List ℕ → Heard → Type 0) (f : List ℕ) {k : ℕ} {w : World} → Plays C f k w → (j : ℕ) → k ≤ j → Plays C f j w

@@ -1,7 +1,7 @@
 -- What the sender says, and what hearing a payload does to it, case by case. Assumes nothing.
-use Rattle.std.proofs.Common.{◌≡◌, ℕ, ◌+◌, ◌<◌, ◌≤◌, Bool, true, false, cond, ◌&&◌, eqb, ltb, leb, List, sym, refl, ap, ◌∙◌}
+use Rattle.std.proofs.Common.{◌≡◌, ℕ, ◌+◌, ◌<◌, ◌≤◌, false, cond, ◌&&◌, eqb, ltb, List, refl, ap, ◌∙◌}
 use Rattle.std.proofs.lemmas.Bool.{and_from, and_left, and_right, cond-true, cond-false, eq-eqb, ne_eqb, lt-ltb, le-ltb}
-use Rattle.bits.specs.Heard.{Heard, Lost, Got}
+use Rattle.bits.specs.Heard.{Lost, Got}
 use Rattle.transfer_theory.specs.Payload.{kind_of, file_of, number_of}
 use Rattle.transfer_theory.specs.Parts.{parts, part_payload, end_payload}
 use Rattle.transfer_theory.specs.Sender.{Sender, says, after_saying, told, asks, tells_done, at_part, with_place, finished}

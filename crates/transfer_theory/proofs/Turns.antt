@@ -1,16 +1,16 @@
 -- What one round does: a move forth, and, once there is a length, a move back. Assumes nothing.
-use Rattle.std.proofs.Common.{◌≡◌, ℕ, zero, suc, ◌+◌, ◌<◌, ◌≤◌, Bool, true, false, T, ltb, ◌⊎◌, List, [], ◌∷◌, sym, refl, ap, ◌∙◌, subst, inl, inr, arith}
+use Rattle.std.proofs.Common.{◌≡◌, ℕ, zero, suc, ◌<◌, ◌≤◌, Bool, true, false, T, ltb, ◌⊎◌, List, sym, refl, subst, inl, inr, arith}
 use Rattle.std.proofs.lemmas.Bool.{cases_Bool, ltb-true, ltb-false}
 use Rattle.bits.specs.Heard.{Heard}
-use Rattle.transfer_theory.specs.Parts.{IsFile, parts}
+use Rattle.transfer_theory.specs.Parts.{IsFile}
 use Rattle.transfer_theory.specs.Sender.{Sender, says}
-use Rattle.transfer_theory.specs.Receiver.{Receiver, hears, answers, empty_of, slot_at}
-use Rattle.transfer_theory.specs.World.{World, step, Says, Asks, Down, Up, Run}
+use Rattle.transfer_theory.specs.Receiver.{hears, answers}
+use Rattle.transfer_theory.specs.World.{World, Run}
 use Rattle.transfer_theory.specs.Invariant.{Good}
 use Rattle.transfer_theory.specs.Onward.{Faithful, Carries, Then, here, spoke, replied, below, above}
 use Rattle.transfer_theory.specs.Rounds.{Round, both, mute, Rounds, none, more}
 use Rattle.transfer_theory.proofs.Slots.{is_true, holds}
-use Rattle.transfer_theory.proofs.Moves.{Forth, Backward, PartMove, EndMove, DoneMove, AskMove, forth_by, back_by, forth-moves, back-moves}
+use Rattle.transfer_theory.proofs.Moves.{Forth, Backward, forth_by, back_by, forth-moves, back-moves}
 use Rattle.transfer_theory.proofs.Following.{in-here, in-answers, then-run, says-payloads}
 
 -- ---- rounds are among what can follow when all goes well

@@ -1,5 +1,6 @@
 // Both sides of a file transfer as machines, all that can happen between them, and what is promised of it: each function's contract names one promise.
 #![tactic(auto)]
+
 pub mod onward;
 
 ghost use Rattle.transfer_theory.specs.Cases.{CasesHold};

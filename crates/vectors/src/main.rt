@@ -1,5 +1,6 @@
 // Test vectors that other libraries computed, from standard input, through the outer code, the inner code and whole frames.
 #![tactic(auto)]
+
 mod digits;
 mod frames;
 mod inner;

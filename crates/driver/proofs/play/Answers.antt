@@ -1,5 +1,5 @@
 -- From no rounds on, with what the log promises.
-use Rattle.std.proofs.Common.{◌≡◌, ◌<◌, ◌≤◌, sym, ◌∙◌, arith}
+use Rattle.std.proofs.Common.{sym, ◌∙◌, arith}
 use Rattle.transfer_theory.specs.Sender.{Sender}
 use Rattle.transfer_theory.specs.Receiver.{Receiver}
 use Rattle.driver.specs.Played.{Played}

@@ -1,5 +1,5 @@
 -- Round after round the log grows.
-use Rattle.std.proofs.Common.{◌≡◌, ◌+◌, ◌<◌, ◌≤◌, sym, refl, ap, ◌∙◌, arith}
+use Rattle.std.proofs.Common.{◌+◌, sym, refl, ◌∙◌, arith}
 use Rattle.driver.proofs.Logged.{ongoing-within, ongoing-alive, ongoing-over, played-on}
 use Rattle.driver.proofs.play_on.Goals as goal
 

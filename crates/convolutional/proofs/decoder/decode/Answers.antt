@@ -1,5 +1,5 @@
 -- What is read back along the decisions of the search is what it finds.
-use Rattle.std.proofs.Common.{◌≡◌, ℕ, ◌+◌, ◌*◌, true, List, length, get_or, sym, refl, ap, ◌∙◌, subst}
+use Rattle.std.proofs.Common.{◌≡◌, ℕ, true, List, length, get_or, sym, refl, ap, ◌∙◌, subst}
 use Rattle.conv_theory.specs.Columns.{Decided, costs_after}
 use Rattle.conv_theory.proofs.Columns.{end-cost}
 use Rattle.conv_theory.specs.Statements.{Cheapest}

@@ -1,5 +1,5 @@
 -- What is read back along the decisions of the search is what it finds.
-use Rattle.std.proofs.Common.{◌≡◌, ℕ, ◌+◌, ◌*◌, true, T, List, map, length, get_or, sym, refl, ap, ◌∙◌, subst, arith}
+use Rattle.std.proofs.Common.{◌≡◌, ℕ, true, List, map, length, get_or, sym, refl, ap, ◌∙◌, subst}
 use Rattle.std.proofs.lemmas.List.{length-map}
 use Rattle.bits.specs.Lists.{are_bits}
 use Rattle.conv_theory.specs.Columns.{Decided, costs_after}

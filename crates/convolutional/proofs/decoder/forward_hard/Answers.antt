@@ -1,7 +1,7 @@
 -- The start, one column more, and the end.
-use Rattle.std.proofs.Common.{◌≡◌, ℕ, ◌+◌, ◌-◌, ◌*◌, ◌/◌, ◌%◌, ◌<◌, List, map, length, get_or, set, sym, refl, ap, ◌∙◌, subst, arith}
+use Rattle.std.proofs.Common.{◌≡◌, ℕ, ◌+◌, ◌*◌, List, map, length, get_or, sym, refl, ap, ◌∙◌, subst, arith}
 use Rattle.std.proofs.lemmas.List.{length-map}
-use Rattle.conv_theory.specs.Columns.{Decided, costs_after, nothing}
+use Rattle.conv_theory.specs.Columns.{Decided, costs_after}
 use Rattle.conv_theory.specs.Search.{hard}
 use Rattle.conv_theory.proofs.Columns.{hard-total}
 use Rattle.convolutional.proofs.Encoding.{bit-within}

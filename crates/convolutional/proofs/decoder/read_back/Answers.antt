@@ -1,5 +1,5 @@
 -- From the end, one column back, and at the start.
-use Rattle.std.proofs.Common.{◌≡◌, ℕ, ◌+◌, ◌-◌, ◌*◌, ◌/◌, ◌%◌, ◌<◌, List, length, set, sym, refl, ap, ◌∙◌, subst, arith}
+use Rattle.std.proofs.Common.{◌≡◌, ℕ, ◌+◌, ◌-◌, ◌*◌, ◌%◌, List, length, sym, refl, subst, arith}
 use Rattle.conv_theory.specs.Columns.{Decided}
 use Rattle.convolutional.proofs.Reading.{Reads, reads_first, reads_more, reads_all}
 use Rattle.convolutional.proofs.decoder.read_back.Goals as goal

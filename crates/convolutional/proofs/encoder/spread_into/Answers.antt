@@ -1,5 +1,5 @@
 -- One bit further, and the end.
-use Rattle.std.proofs.Common.{◌≡◌, ◌+◌, ◌*◌, ◌<◌, ◌≤◌, ◌++◌, length, sym, refl, arith}
+use Rattle.std.proofs.Common.{◌++◌, sym, arith}
 use Rattle.std.proofs.lemmas.List.{length-append}
 use Rattle.bits.specs.Lists.{zeros}
 use Rattle.bits.proofs.Tests.{length-zeros}

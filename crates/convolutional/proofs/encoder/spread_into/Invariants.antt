@@ -1,5 +1,5 @@
 -- What is written, with what is to come, is what all bits are sent as.
-use Rattle.std.proofs.Common.{◌≡◌, ◌+◌, ◌*◌, ◌<◌, ◌++◌, length}
+use Rattle.std.proofs.Common.{◌<◌, ◌++◌}
 use Rattle.bits.specs.Lists.{zeros}
 use Rattle.convolutional.proofs.Encoding.{Written}
 use Rattle.convolutional.proofs.encoder.spread_into.Given as goal

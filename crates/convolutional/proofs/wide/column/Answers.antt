@@ -1,5 +1,5 @@
 -- One butterfly more, and all 32.
-use Rattle.std.proofs.Common.{◌+◌, ◌*◌, get_or, arith}
+use Rattle.std.proofs.Common.{◌+◌, ◌*◌, get_or}
 use Rattle.conv_theory.specs.Columns.{cheaper, choice, next_costs, choices}
 use Rattle.convolutional.proofs.Butterfly.{first_small_lem, second-small, butterfly, cost-is, choice-is, filled_none, filled_more, filled-all}
 use Rattle.convolutional.proofs.wide.column.Goals as goal

@@ -1,8 +1,8 @@
 -- What hearing answers by a number is the thing heard; bits that a line says are a frame's, so they are not refused.
-use Rattle.std.proofs.Common.{◌≡◌, ℕ, List, sym, subst, ⊎_elim, rules}
+use Rattle.std.proofs.Common.{◌≡◌, sym, subst, ⊎_elim, rules}
 use Rattle.std.proofs.lemmas.Bool.{cases_eq}
-use Rattle.bits.specs.Heard.{Heard, Lost, Got}
-use Rattle.text.specs.Lines.{Said, Bits, said}
+use Rattle.bits.specs.Heard.{Lost, Got}
+use Rattle.text.specs.Lines.{Said}
 use Rattle.text.proofs.LineLaws.{line-laws}
 use Rattle.ends.specs.Hearing.{HeardOf}
 use Rattle.ends.proofs.hearing.hear_bits.Goals as goal

@@ -1,5 +1,5 @@
 -- The file stands in front, and no file is longer than a length that is taken.
-use Rattle.std.proofs.Common.{◌≡◌, ℕ, ◌-◌, ◌≤◌, List, ◌++◌, length, take, drop, ap, ◌∙◌, arith, length-take}
+use Rattle.std.proofs.Common.{ℕ, ◌-◌, ◌≤◌, List, ◌++◌, length, take, drop, ap, ◌∙◌, arith, length-take}
 use lib.Seq.{take-append_seam}
 use Rattle.transfer_theory.specs.Receiver.{handed, joined, wanted}
 use Rattle.transfer.specs.Stations.{receiver_in}

@@ -1,8 +1,7 @@
 -- No code word within reach, a wrong check, or the payload.
-use Rattle.std.proofs.Common.{◌≡◌, ℕ, ◌≤◌, true, false, T, List, sym, subst, arith}
+use Rattle.std.proofs.Common.{◌≡◌, ℕ, ◌≤◌, List, sym, subst, arith}
 use Rattle.bits.specs.Distance.{distance}
 use Rattle.bits.specs.Heard.{Got}
-use Rattle.rs_theory.specs.Code.{is_codeword}
 use Rattle.frame_theory.specs.Frame.{Taken, right, spoiled, far}
 use Rattle.frame.proofs.hearing.take_payload.Goals as goal
 

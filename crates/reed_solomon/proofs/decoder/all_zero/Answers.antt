@@ -1,4 +1,4 @@
-use Rattle.std.proofs.Common.{◌≡◌, ℕ, List, get_or, ap, ◌∙◌, arith}
+use Rattle.std.proofs.Common.{ℕ, List, get_or, ap, ◌∙◌, arith}
 use Rattle.reed_solomon.proofs.Vanish.{zeros-are, get_or-zeros}
 use Rattle.reed_solomon.proofs.decoder.all_zero.Goals as goal
 

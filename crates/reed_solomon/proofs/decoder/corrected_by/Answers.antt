@@ -1,5 +1,4 @@
-use Rattle.std.proofs.Common.{◌≡◌, ℕ, ◌-◌, ◌≤◌, T, List, length, get_or, take, sym, ap, ◌∙◌, ap₂, arith}
-use Rattle.bits.specs.Lists.{are_bytes}
+use Rattle.std.proofs.Common.{◌≡◌, ℕ, ◌-◌, ◌≤◌, List, length, get_or, take, ap, ◌∙◌, arith}
 use Rattle.rs_theory.proofs.Value.{locators}
 use Rattle.rs_decoding.specs.Decoding.{values_of, roots_of, corrected}
 use Rattle.rs_decoding.proofs.Bytes.{bytes-all}

@@ -1,4 +1,4 @@
-use Rattle.std.proofs.Common.{◌≡◌, ℕ, ◌+◌, ◌<◌, ◌≤◌, List, length, drop, sym, ap, ◌∙◌, subst, arith}
+use Rattle.std.proofs.Common.{◌≡◌, ℕ, ◌+◌, ◌<◌, ◌≤◌, List, length, drop, sym, subst, arith}
 use Rattle.bits.specs.Distance.{distance}
 use Rattle.rs_decoding.proofs.ErrorSteps.{distance-hit, distance-miss, distance-end}
 use Rattle.reed_solomon.proofs.decoder.differences.Goals as goal

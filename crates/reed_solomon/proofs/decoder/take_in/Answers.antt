@@ -1,4 +1,4 @@
-use Rattle.std.proofs.Common.{◌≡◌, ℕ, suc, ◌+◌, ◌<◌, ◌≤◌, ◌≢◌, length, get_or, sym, ap, ◌∙◌, ap₂, le_refl, add-one, arith, length-set, get_or-set_other, get_or-set_same, below_more}
+use Rattle.std.proofs.Common.{◌≡◌, ℕ, ◌<◌, ◌≢◌, length, ap, ◌∙◌, ap₂, le_refl, add-one, arith, length-set, get_or-set_other, get_or-set_same, below_more}
 use lib.Bits.{bit_xor}
 use Rattle.gf256.specs.Field.{product, power}
 use Rattle.reed_solomon.proofs.decoder.take_in.Goals as goal

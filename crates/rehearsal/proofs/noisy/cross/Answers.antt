@@ -1,5 +1,5 @@
 -- A frame is bits, so what arrives of it is.
-use Rattle.std.proofs.Common.{◌≡◌, ℕ, T, List, sym, subst}
+use Rattle.std.proofs.Common.{ℕ, T, List, sym, subst}
 use Rattle.bits.specs.Lists.{are_bits}
 use Rattle.rs_decoding.proofs.Bytes.{bytes-all}
 use Rattle.link.proofs.Whole.{main}

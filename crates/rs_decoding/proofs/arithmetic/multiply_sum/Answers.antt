@@ -1,6 +1,6 @@
 use Rattle.std.proofs.Common.{ℕ, ◌<◌, sym, ap, ◌∙◌, subst, rules}
 use lib.Bits.{bit_xor}
-use Rattle.gf256.proofs.Ring.{◌⊕◌, ◌⊙◌, xor_is, ⊕-below, product_is}
+use Rattle.gf256.proofs.Ring.{◌⊙◌, xor_is, ⊕-below, product_is}
 use Rattle.rs_decoding.proofs.arithmetic.multiply_sum.Goals as goal
 
 pub returns : goal.returns

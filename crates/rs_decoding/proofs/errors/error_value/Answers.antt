@@ -1,4 +1,4 @@
-use Rattle.std.proofs.Common.{◌≡◌, ℕ, ◌+◌, ◌<◌, ◌≤◌, List, length, get_or, drop, sym, ap, ◌∙◌, ap₂, subst₂, arith}
+use Rattle.std.proofs.Common.{◌≡◌, ℕ, ◌+◌, ◌<◌, ◌≤◌, List, length, get_or, drop, sym, ◌∙◌, ap₂, subst₂}
 use Rattle.gf256.specs.Field.{inverse}
 use Rattle.gf256.proofs.Ring.{◌⊙◌}
 use Rattle.rs_decoding.specs.Decoding.{peel_others, others, value_at}

@@ -1,4 +1,4 @@
-use Rattle.std.proofs.Common.{◌≡◌, ◌<◌, length, take, drop}
+use Rattle.std.proofs.Common.{◌≡◌, length, drop}
 use Rattle.rs_decoding.specs.Decoding.{peel_others, others}
 use Rattle.rs_decoding.proofs.errors.error_value.Given as goal
 

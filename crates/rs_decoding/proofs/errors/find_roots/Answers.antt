@@ -1,4 +1,4 @@
-use Rattle.std.proofs.Common.{◌≡◌, ℕ, ◌+◌, ◌<◌, ◌≤◌, List, ◌++◌, length, take, drop, set, sym, ap, ◌∙◌, subst, ap₂, subst₂, arith, length-set}
+use Rattle.std.proofs.Common.{◌≡◌, ℕ, ◌+◌, ◌<◌, ◌≤◌, List, ◌++◌, length, take, drop, sym, ◌∙◌, subst₂, arith, length-set}
 use Rattle.rs_theory.proofs.Value.{locators, length-locators}
 use Rattle.rs_decoding.specs.Decoding.{roots_of}
 use Rattle.rs_decoding.proofs.ErrorSteps.{locator-is, roots-hit, roots-miss, roots-end, roots-many}

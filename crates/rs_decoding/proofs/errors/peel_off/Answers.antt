@@ -1,4 +1,4 @@
-use Rattle.std.proofs.Common.{ℕ, ◌<◌, length, ◌∙◌, arith, length-set}
+use Rattle.std.proofs.Common.{◌<◌, length, ◌∙◌, arith, length-set}
 use Rattle.rs_decoding.proofs.ErrorSteps.{peel-step, peel-end}
 use Rattle.rs_decoding.proofs.errors.peel_off.Goals as goal
 

@@ -1,4 +1,4 @@
-use Rattle.std.proofs.Common.{◌≡◌, ℕ, ◌+◌, ◌<◌, ◌≤◌, ◌≢◌, length, get_or, ◌∙◌, ap₂, le_refl, arith, length-set, get_or-set_other, get_or-set_same, below_more}
+use Rattle.std.proofs.Common.{◌≡◌, ℕ, ◌<◌, ◌≢◌, length, ◌∙◌, ap₂, le_refl, arith, length-set, get_or-set_other, get_or-set_same, below_more}
 use Rattle.gf256.proofs.Ring.{◌⊕◌, ◌⊙◌}
 use Rattle.rs_decoding.proofs.ErrorSteps.{locator-is}
 use Rattle.rs_decoding.proofs.errors.take_in.Goals as goal

@@ -1,4 +1,4 @@
-use Rattle.std.proofs.Common.{ℕ, ◌+◌, ◌<◌, ◌≤◌, length, drop, ap, ◌∙◌, arith, length-set, rules}
+use Rattle.std.proofs.Common.{◌<◌, ◌≤◌, length, ◌∙◌, arith, length-set}
 use Rattle.rs_decoding.proofs.Steps.{combine-step, combine-end}
 use Rattle.rs_decoding.proofs.search.add_multiple.Goals as goal
 

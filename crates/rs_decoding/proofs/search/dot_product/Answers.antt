@@ -1,4 +1,4 @@
-use Rattle.std.proofs.Common.{ℕ, ◌+◌, ◌<◌, ◌≤◌, length, drop, ap, ◌∙◌, add-zero, arith, rules}
+use Rattle.std.proofs.Common.{ℕ, ◌+◌, ◌<◌, ◌≤◌, length, drop, ap, ◌∙◌, add-zero, arith}
 use Rattle.gf256.proofs.Ring.{◌⊕◌, ⊕-zero-l}
 use Rattle.rs_decoding.specs.Decoding.{dot}
 use Rattle.rs_decoding.proofs.Steps.{dot-step, dot-end}

@@ -1,4 +1,4 @@
-use Rattle.std.proofs.Common.{◌≡◌, ℕ, ◌+◌, ◌<◌, ◌≤◌, List, length, set, replicate, sym, refl, ap, ◌∙◌, subst, arith, length-set, rules}
+use Rattle.std.proofs.Common.{◌≡◌, ℕ, ◌+◌, ◌<◌, ◌≤◌, List, set, replicate, sym, refl, ap, ◌∙◌, subst, arith, length-set}
 use Rattle.rs_theory.proofs.Sum.{weight}
 use Rattle.rs_decoding.specs.Search.{Topped, Pivots}
 use Rattle.rs_decoding.proofs.Reduce.{topped-unit, pivots-none, pivots-more, pivots-within, weight-none}

@@ -1,4 +1,4 @@
-use Rattle.std.proofs.Common.{◌≡◌, ℕ, ◌+◌, ◌<◌, List, [], length, get_or, sym, refl, ap, ◌∙◌, subst, arith, rules}
+use Rattle.std.proofs.Common.{◌≡◌, ℕ, ◌+◌, List, [], length, get_or, sym, refl, ◌∙◌, subst}
 use Rattle.rs_decoding.proofs.Reduce.{Clear, clear-more, clear-by}
 use Rattle.rs_decoding.proofs.search.reduce.Goals as goal
 use Rattle.rs_decoding.proofs.search.reduce.Goals.{then-d-ne0+else-heads-i-eq0, else-d-ne0}

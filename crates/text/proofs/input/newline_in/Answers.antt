@@ -1,7 +1,6 @@
 -- Each turn looks at one byte more.
-use Rattle.std.proofs.Common.{◌≡◌, ℕ, ◌+◌, true, false, List, [], length, drop, sym, ap, ◌∙◌, arith}
+use Rattle.std.proofs.Common.{ℕ, true, false, List, length, ap, arith}
 use Rattle.std.proofs.lemmas.Bool.{eq-eqb, ne_eqb}
-use Rattle.text.specs.Input.{before}
 use Rattle.text.proofs.Chunks.{before_more, before-all}
 use Rattle.text.proofs.input.newline_in.Goals as goal
 

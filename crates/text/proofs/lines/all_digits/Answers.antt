@@ -1,5 +1,5 @@
 -- Each turn takes one byte from what is left.
-use Rattle.std.proofs.Common.{◌≡◌, true, false, sym, ◌∙◌, arith}
+use Rattle.std.proofs.Common.{true, false, sym, ◌∙◌, arith}
 use Rattle.text.proofs.Digits.{are_digits-more, are_digits-all}
 use Rattle.text.proofs.lines.all_digits.Goals as goal
 

@@ -1,5 +1,5 @@
 -- Each turn writes one place more.
-use Rattle.std.proofs.Common.{◌≡◌, ℕ, ◌+◌, set, sym, ap, ◌∙◌, arith}
+use Rattle.std.proofs.Common.{ℕ, ◌+◌, set, sym, ap, ◌∙◌, arith}
 use Rattle.text.specs.Lines.{bit_of}
 use Rattle.text.proofs.Loops.{mapped, mapped-more, mapped-all}
 use Rattle.text.proofs.lines.put_bits.Goals as goal

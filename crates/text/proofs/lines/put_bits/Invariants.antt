@@ -1,5 +1,5 @@
 -- What is written, and what the rest becomes, is the whole; the buffer keeps its length.
-use Rattle.std.proofs.Common.{◌≡◌, length}
+use Rattle.std.proofs.Common.{◌≡◌}
 use Rattle.text.specs.Lines.{bit_of, bits_in}
 use Rattle.text.proofs.Loops.{mapped}
 use Rattle.text.proofs.lines.put_bits.Given as goal

@@ -1,7 +1,7 @@
 -- Each turn writes one place more.
-use Rattle.std.proofs.Common.{◌≡◌, ℕ, ◌+◌, set, sym, ap, ◌∙◌, arith}
+use Rattle.std.proofs.Common.{sym, ◌∙◌, arith}
 use Rattle.text.specs.Lines.{digit_of}
-use Rattle.text.proofs.Loops.{mapped, mapped-more, mapped-all}
+use Rattle.text.proofs.Loops.{mapped-more, mapped-all}
 use Rattle.text.proofs.lines.put_digits.Goals as goal
 
 pub loop-i-preserved : goal.loop-i-preserved

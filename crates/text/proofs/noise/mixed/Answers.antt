@@ -1,5 +1,5 @@
 -- The two steps of mixing, one behind the other.
-use Rattle.std.proofs.Common.{◌≡◌, ℕ, ◌/◌, ◌^◌, ap, ◌∙◌}
+use Rattle.std.proofs.Common.{ℕ, ◌/◌, ◌^◌, ap, ◌∙◌}
 use lib.Bits.{bit_xor}
 use Rattle.text.specs.Noise.{stirred, output}
 use Rattle.text.proofs.noise.mixed.Goals as goal

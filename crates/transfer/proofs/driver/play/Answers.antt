@@ -1,5 +1,5 @@
 -- Round after round the log grows; what it ends in is a run.
-use Rattle.std.proofs.Common.{◌≡◌, ◌+◌, ◌<◌, ◌≤◌, true, sym, refl, ap, ◌∙◌, arith}
+use Rattle.std.proofs.Common.{◌≡◌, ◌+◌, ◌<◌, true, sym, refl, ◌∙◌, arith}
 use Rattle.transfer.proofs.Logged.{played-none, played-more, played-run, played-enough}
 use Rattle.transfer.proofs.driver.play.Goals as goal
 use Rattle.transfer.proofs.driver.play.Goals.{then-loop-rounds-test+else-not-done, else-loop-rounds-test}

@@ -1,5 +1,5 @@
 -- Nothing heard changes nothing.
-use Rattle.std.proofs.Common.{◌≡◌, ℕ, List, Option, sym, ap, ◌∙◌}
+use Rattle.std.proofs.Common.{ℕ, List, Option, sym, ap, ◌∙◌}
 use Rattle.transfer_theory.specs.Receiver.{hears}
 use Rattle.transfer_theory.proofs.Hearing.{hears-lost}
 use Rattle.transfer.specs.Lines.{heard_of}

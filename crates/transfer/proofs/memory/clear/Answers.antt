@@ -1,5 +1,5 @@
 -- One more count byte is 0; when all are, no slot has a part.
-use Rattle.std.proofs.Common.{◌≡◌, ℕ, ◌+◌, ◌*◌, ◌<◌, List, length, get_or, set, sym, ap, ◌∙◌, inl, inr, arith, length-set, get_or-set_other, get_or-set_same, below_more}
+use Rattle.std.proofs.Common.{ℕ, ◌*◌, List, length, get_or, ap, ◌∙◌, arith, length-set, get_or-set_other, get_or-set_same, below_more}
 use Rattle.transfer.proofs.Slotted.{cleared}
 use Rattle.transfer.proofs.memory.clear.Goals as goal
 

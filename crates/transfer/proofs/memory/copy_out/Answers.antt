@@ -1,5 +1,5 @@
 -- Slot after slot, what was copied is what the slots hold.
-use Rattle.std.proofs.Common.{◌≡◌, ℕ, ◌+◌, ◌-◌, ◌*◌, ◌≤◌, min, List, [], ◌++◌, length, take, drop, sym, refl, ap, ◌∙◌, subst, arith, length-take}
+use Rattle.std.proofs.Common.{◌≡◌, ℕ, ◌+◌, ◌-◌, List, ◌++◌, length, take, drop, sym, ap, ◌∙◌, arith, length-take}
 use lib.Seq.{take-nil}
 use Rattle.transfer_theory.specs.Receiver.{joined}
 use Rattle.transfer.specs.Memory.{slots_of, bytes_in}

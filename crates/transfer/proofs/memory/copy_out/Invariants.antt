@@ -1,5 +1,5 @@
 -- What was copied so far, and what lies behind it.
-use Rattle.std.proofs.Common.{◌≡◌, ℕ, ◌≤◌, ◌++◌, length, take, drop}
+use Rattle.std.proofs.Common.{◌≡◌, ◌≤◌, ◌++◌, length, take, drop}
 use Rattle.transfer_theory.specs.Receiver.{joined}
 use Rattle.transfer.specs.Memory.{slots_of}
 use Rattle.transfer.proofs.memory.copy_out.Given as goal

@@ -1,5 +1,5 @@
 -- The stretch that is copied is what the slot holds, as far as there is room.
-use Rattle.std.proofs.Common.{◌≡◌, ℕ, ◌+◌, ◌-◌, ◌*◌, ◌≤◌, min, List, length, get_or, take, drop, sym, ap, ◌∙◌, arith, length-drop, length-take}
+use Rattle.std.proofs.Common.{◌≡◌, ℕ, ◌+◌, ◌-◌, ◌*◌, min, length, get_or, take, drop, ap, ◌∙◌, arith, length-drop, length-take}
 use Rattle.transfer.specs.Memory.{bytes_in}
 use Rattle.transfer.proofs.Places.{put-over}
 use Rattle.transfer.proofs.Copying.{slot-stretch}

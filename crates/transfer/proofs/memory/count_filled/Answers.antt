@@ -1,6 +1,5 @@
 -- Slot after slot.
-use Rattle.std.proofs.Common.{◌≡◌, ◌+◌, ◌-◌, ◌≤◌, arith}
-use Rattle.transfer.specs.Memory.{slots_from, slots_of, filled}
+use Rattle.std.proofs.Common.{arith}
 use Rattle.transfer.proofs.Slotted.{filled_more, filled-all}
 use Rattle.transfer.proofs.memory.count_filled.Goals as goal
 

@@ -1,5 +1,5 @@
 -- What is counted, with what is left, is all.
-use Rattle.std.proofs.Common.{◌≡◌, ℕ, ◌+◌, ◌-◌, ◌≤◌}
+use Rattle.std.proofs.Common.{◌≡◌, ◌+◌, ◌-◌, ◌≤◌}
 use Rattle.transfer.specs.Memory.{slots_from, slots_of, filled}
 use Rattle.transfer.proofs.memory.count_filled.Given as goal
 

@@ -1,5 +1,5 @@
 -- The slot at which it stops is the first gap.
-use Rattle.std.proofs.Common.{◌≡◌, ◌*◌, ◌<◌, get_or, sym, ◌∙◌, arith, eqb-true, true-eqb}
+use Rattle.std.proofs.Common.{◌*◌, get_or, sym, ◌∙◌, arith, eqb-true}
 use Rattle.transfer.proofs.Slotted.{gap-found}
 use Rattle.transfer.proofs.memory.first_gap.Goals as goal
 

@@ -1,5 +1,5 @@
 -- All slots passed are filled.
-use Rattle.std.proofs.Common.{◌≡◌, ℕ, ◌*◌, ◌<◌, length, get_or}
+use Rattle.std.proofs.Common.{◌≡◌, ℕ, ◌*◌, ◌<◌, get_or}
 use Rattle.transfer.proofs.memory.first_gap.Given as goal
 
 abbrev pub invariant-loop-slot : goal.invariant-loop-slot

@@ -1,5 +1,5 @@
 -- Body and count byte written fill the slot.
-use Rattle.std.proofs.Common.{◌≡◌, ℕ, ◌+◌, ◌*◌, List, length, set, sym, ap, ◌∙◌}
+use Rattle.std.proofs.Common.{ℕ, ◌+◌, ◌*◌, List, length, set, ap, ◌∙◌}
 use Rattle.transfer.specs.Memory.{slots_of}
 use Rattle.transfer.proofs.Slotted.{kept}
 use Rattle.transfer.proofs.memory.keep.Goals as goal

@@ -1,5 +1,5 @@
 -- A part's body: the bytes counted, of the 214 that are there.
-use Rattle.std.proofs.Common.{◌≡◌, ℕ, ◌+◌, ◌-◌, ◌*◌, min, take, drop, sym, ap, ◌∙◌, arith, length-take, rules}
+use Rattle.std.proofs.Common.{ℕ, ◌+◌, ◌-◌, min, drop, ap, ◌∙◌, arith, length-take, rules}
 use Rattle.transfer.proofs.Bytes.{body-cut}
 use Rattle.transfer.proofs.message.read.Goals as goal
 

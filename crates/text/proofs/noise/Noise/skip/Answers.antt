@@ -1,5 +1,5 @@
 -- Each turn takes one step from those that are left.
-use Rattle.std.proofs.Common.{◌≡◌, ℕ, ◌+◌, ◌-◌, sym, ap, ◌∙◌, arith}
+use Rattle.std.proofs.Common.{ℕ, ◌+◌, ◌-◌, sym, ap, ◌∙◌, arith}
 use Rattle.text.specs.Noise.{advanced}
 use Rattle.text.proofs.Draws.{advanced-more, advanced-none}
 use Rattle.text.proofs.noise.Noise.skip.Goals as goal

@@ -1,5 +1,5 @@
 -- The range that is sent is the part.
-use Rattle.std.proofs.Common.{◌≡◌, ℕ, ◌+◌, ◌-◌, ◌*◌, ◌/◌, ◌<◌, ◌≤◌, min, List, length, take, drop, sym, ap, ◌∙◌, arith}
+use Rattle.std.proofs.Common.{ℕ, ◌-◌, ◌*◌, List, take, drop, ap, ◌∙◌, arith}
 use Rattle.transfer_theory.specs.Payload.{payload}
 use Rattle.transfer.proofs.Sailing.{part-range}
 use Rattle.transfer.proofs.ship.Vessel.say_part.Goals as goal

@@ -1,5 +1,5 @@
 -- Each way of taking in what was heard is the sender's.
-use Rattle.std.proofs.Common.{◌≡◌, ◌+◌, ◌/◌, ◌<◌, ◌≤◌, length, vec_items, sym, ap, ◌∙◌, arith, rules}
+use Rattle.std.proofs.Common.{vec_items, sym, ◌∙◌, arith}
 use Rattle.transfer_theory.specs.Sender.{sender_at}
 use Rattle.transfer.proofs.KindOf.{not-ask, not_done}
 use Rattle.transfer.proofs.Sailing.{ask-taken, ask-past, done-taken, of-another, of-no-kind}

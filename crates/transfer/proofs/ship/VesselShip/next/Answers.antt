@@ -1,5 +1,5 @@
 -- What it says, and where it stands then, are the sender's.
-use Rattle.std.proofs.Common.{◌≡◌, ◌+◌, ◌/◌, ◌<◌, ◌≤◌, length, vec_items, sym, ap, ◌∙◌, arith}
+use Rattle.std.proofs.Common.{◌+◌, ◌/◌, ◌<◌, ◌≤◌, length, vec_items, sym, ◌∙◌, arith}
 use Rattle.transfer_theory.specs.Sender.{sender_at}
 use Rattle.transfer_theory.proofs.Telling.{says-part, says-end, after-part, after-end}
 use Rattle.transfer.proofs.ship.VesselShip.next.Goals as goal

@@ -1,7 +1,7 @@
 -- The answer is the receiver's.
-use Rattle.std.proofs.Common.{◌≡◌, ℕ, ◌+◌, ◌-◌, ◌/◌, ◌<◌, ◌≤◌, sym, refl, ap, ◌∙◌, arith}
+use Rattle.std.proofs.Common.{◌≡◌, ℕ, ◌<◌, sym, ap, ◌∙◌, arith}
 use borrow.Author.Tests.{lt-true, clash}
-use Rattle.transfer_theory.specs.Receiver.{Receiver, receiver_of, first_missing, first_gap, wanted}
+use Rattle.transfer_theory.specs.Receiver.{receiver_of, first_missing, first_gap, wanted}
 use Rattle.transfer.specs.Memory.{slots_of}
 use Rattle.transfer.proofs.Landing.{says-done, says-ask}
 use Rattle.transfer.proofs.station.GroundStation.answer.Goals as goal

@@ -1,7 +1,7 @@
 -- Each way of taking in what was heard is the receiver's.
-use Rattle.std.proofs.Common.{◌≡◌, ℕ, ◌*◌, List, length, get_or, sym, refl, ap, ◌∙◌, inl, inr, arith}
+use Rattle.std.proofs.Common.{ℕ, ◌*◌, List, get_or, sym, ap, ◌∙◌, inl, inr, arith}
 use Rattle.std.proofs.lemmas.Bool.{cases_eq}
-use Rattle.transfer_theory.specs.Receiver.{Slot, Receiver, receiver_of}
+use Rattle.transfer_theory.specs.Receiver.{Slot, receiver_of}
 use Rattle.transfer.specs.Memory.{slots_of}
 use Rattle.transfer.proofs.KindOf.{not-part, not_end}
 use Rattle.transfer.proofs.Slotted.{is-empty, is-full}
