@@ -1,4 +1,4 @@
-"""The repository's own checks: formatting, listed crates, no reference to what its readers do not have, the toolchain's line, links, vectors.
+"""The repository's own checks: listed crates, no reference to what its readers do not have, the toolchain's line, links, vectors.
 
 Run from anywhere; ./test calls it. Exits with 1 and a line for each fault if there is one.
 """
@@ -41,7 +41,7 @@ def files():
     else:
         names = []
         for folder, folders, here in os.walk(ROOT):
-            folders[:] = [f for f in folders if f not in (".git", "target")]
+            folders[:] = [f for f in folders if f not in (".git", "target", "out")]
             names += [os.path.relpath(os.path.join(folder, f), ROOT) for f in here]
     return sorted(n for n in names if os.path.isfile(os.path.join(ROOT, n)))
 
@@ -54,16 +54,10 @@ def text_of(name):
         return ""
 
 
-def formatting():
-    done = subprocess.run(["rt", "fmt", "--check"], cwd=ROOT, capture_output=True, text=True)
-    if done.returncode != 0:
-        yield "not formatted (rt fmt does it): " + " ".join((done.stdout + done.stderr).split())[:400]
-
-
 def listed_crates():
     with open(os.path.join(ROOT, "crates.txt"), encoding="utf-8") as file:
         lines = [line.split("#")[0] for line in file]
-    listed = {line.split(":")[0].strip() for line in lines if ":" in line}
+    listed = {line.split(":")[0].split()[0] for line in lines if ":" in line}
     there = set(os.listdir(os.path.join(ROOT, "crates")))
     for name in sorted(there - listed):
         yield f"crates/{name} is not listed in crates.txt"
@@ -123,7 +117,7 @@ def vectors():
 
 def main():
     faults = []
-    for check in (formatting, listed_crates, stands_alone, toolchain_line, links, vectors):
+    for check in (listed_crates, stands_alone, toolchain_line, links, vectors):
         found = list(check())
         print(f"check: {check.__name__}: {'ok' if not found else 'FAILED'}")
         faults += found

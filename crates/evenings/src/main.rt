@@ -84,8 +84,8 @@ fn main(rt: HostRuntime) -> anyhow::Result<()> {
     let ship = Vessel::new(rt.alloc())?;
     let mut memory = vec![in rt.alloc(); 255u8; 215000]?;
     let mut out = [UNTOUCHED; 214000];
-    if let Ok(ground) = Ground::open(0, &mut memory) {
-        let mut shore = Shore { ground };
+    if let Ok(station) = Ground::open(0, &mut memory) {
+        let mut shore = Shore { station };
         let mut evening = Evening::new(ship);
         play_all(&mut evening, &mut shore, &mut dice, &pool, &mut out);
         evening.tally.show(&rt)?;

@@ -6,24 +6,24 @@ use transfer::station::Ground;
 
 #[derive(Drop)]
 pub struct Shore<'a> {
-    pub ground: Ground<'a>,
-    ghost sound: { Sound ground },
+    pub station: Ground<'a>,
+    ghost sound: { Sound station },
 }
 
 impl<'a> Shore<'a> {
     pub fn begin(&mut self, number: u8) {
-        self.ground.begin(number);
+        self.station.begin(number);
     }
 
     pub fn heard(&mut self, payload: &[u8; 221]) {
-        self.ground.heard(payload);
+        self.station.heard(payload);
     }
 
     pub fn answer(&self, out: &mut [u8; 221]) -> bool {
-        self.ground.answer(out)
+        self.station.answer(out)
     }
 
     pub fn hand_over(&self, out: &mut [u8; 214000]) -> u32 {
-        self.ground.hand_over(out)
+        self.station.hand_over(out)
     }
 }

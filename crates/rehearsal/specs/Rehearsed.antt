@@ -21,7 +21,7 @@ pub record Table : Type 0 where
 
 abbrev pub table_of : Rehearsal → Table
 table_of r =
-    record { sender = sender_in r.link; receiver = receiver_in r.ground; line = r.line; rounds = r.outcome.rounds; first = r.outcome.complete }
+    record { sender = sender_in r.link; receiver = receiver_in r.station; line = r.line; rounds = r.outcome.rounds; first = r.outcome.complete }
 
 -- the table that a log leads to, from the file f of number n and a line with the seed and P
 abbrev pub table_by : ℕ → List ℕ → ℕ → ℕ → List Exchange → Table

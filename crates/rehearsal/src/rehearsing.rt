@@ -35,10 +35,10 @@ impl<'a> Rehearsal<'a> {
     {
         let mut link = link;
         link.vessel.load(number, content)?;
-        let ground = TheGround::open(number, memory)?;
+        let station = TheGround::open(number, memory)?;
         Ok(Rehearsal {
             link,
-            ground,
+            station,
             line: Noisy::new(seed, p),
             outcome: Outcome {
                 rounds: 0,
@@ -57,7 +57,7 @@ impl<'a> Rehearsal<'a> {
     {
         self.outcome = play_on(
             &mut self.link,
-            &mut self.ground,
+            &mut self.station,
             &mut self.line,
             self.outcome,
             budget,
@@ -68,7 +68,7 @@ impl<'a> Rehearsal<'a> {
     pub fn parts_there(&self) -> usize
         ensures { result ≡ filled (table_of self.now).receiver.slots }
     {
-        self.ground.parts_there()
+        self.station.parts_there()
     }
 
     // Writes the file, if the station is complete, and says how many bytes it has; what lies behind them stays.
@@ -76,7 +76,7 @@ impl<'a> Rehearsal<'a> {
         ensures count { result ≡ handed_count (table_of self.now).receiver }
         ensures written { out.new ≡ handed_into (table_of self.now).receiver out.old }
     {
-        self.ground.hand_over(out)
+        self.station.hand_over(out)
     }
 
     // What there is to report.

@@ -8,8 +8,8 @@ use link::{TheGround, TheLink};
 #[derive(Drop)]
 pub struct Rehearsal<'a> {
     pub(crate) link: TheLink,
-    pub(crate) ground: TheGround<'a>,
+    pub(crate) station: TheGround<'a>,
     pub(crate) line: Noisy,
     pub(crate) outcome: Outcome,
-    ghost sound: { Sound ground },
+    ghost sound: { Sound station },
 }

@@ -43,9 +43,13 @@ fn main(rt: HostRuntime) -> anyhow::Result<()> {
     let link = TheLink::new(rt.alloc())?;
     let mut memory = vec![in rt.alloc(); 255u8; 215000]?;
     let mut table = Table { cases: 0, wrong: 0 };
-    if let Ok(ground) = TheGround::open(7, &mut memory) {
+    if let Ok(station) = TheGround::open(7, &mut memory) {
         let line = Line::new();
-        let mut pair = Pair { link, ground, line };
+        let mut pair = Pair {
+            link,
+            station,
+            line,
+        };
         sessions(&rt, &mut table, &mut pair, &pool)?;
     }
     arguments::all(&rt, &mut table)?;

@@ -14,29 +14,29 @@ pub const WRONG: u64 = 999999;
 #[derive(Drop)]
 pub struct Pair<'a> {
     pub link: TheLink,
-    pub ground: TheGround<'a>,
+    pub station: TheGround<'a>,
     // what the ship said last
     pub line: Line,
-    ghost sound: { Sound ground },
+    ghost sound: { Sound station },
 }
 
 impl<'a> Pair<'a> {
     // 0, or the number of the refusal.
     pub fn hears(&mut self, line: &Line) -> u64 {
-        match station_hears(&mut self.ground, line) {
+        match station_hears(&mut self.station, line) {
             Ok(()) => 0,
             Err(e) => u64::from(e.code()),
         }
     }
 
     pub fn answers(&self, line: &mut Line) {
-        station_answers(&self.ground, line);
+        station_answers(&self.station, line);
     }
 
     // The number of bytes handed over, if the station is complete.
     fn hands_over(&self, out: &mut [u8; 214000]) -> Option<usize> {
-        match self.ground.leave() {
-            Some(leave) => Some(hand_over(&self.ground, leave, out)),
+        match self.station.leave() {
+            Some(leave) => Some(hand_over(&self.station, leave, out)),
             None => None,
         }
     }
@@ -44,7 +44,7 @@ impl<'a> Pair<'a> {
     // A new file of number 7 for both; the ship says its first frame.
     pub fn begin(&mut self, content: &[u8]) {
         let _ = self.link.begin(7, content);
-        self.ground.begin(7);
+        self.station.begin(7);
         ship_first(&mut self.link, &mut self.line);
     }
 

@@ -17,15 +17,15 @@ const USAGE: &str =
 fn write_due(
     rt: &HostRuntime,
     path: &str,
-    ground: &TheGround,
+    station: &TheGround,
     written: bool,
 ) -> Result<bool, Failure>
-    requires { Sound ground.now }
+    requires { Sound station.now }
 {
-    match leave_once(ground, written) {
+    match leave_once(station, written) {
         Some(leave) => {
             let mut out = [0u8; 214000];
-            let count = hand_over(ground, leave, &mut out);
+            let count = hand_over(station, leave, &mut out);
             console::write_file(rt, path, &out[0..count])?;
             Ok(true)
         }
@@ -34,8 +34,8 @@ fn write_due(
 }
 
 // An answer for each line, until the input ends. The file is written before the answer that says so is printed.
-fn listen(rt: &HostRuntime, path: &str, ground: &mut TheGround) -> Result<(), Failure>
-    requires { Sound ground.old }
+fn listen(rt: &HostRuntime, path: &str, station: &mut TheGround) -> Result<(), Failure>
+    requires { Sound station.old }
 {
     let mut input = BufReader::new(rt.alloc(), rt.stdin())?;
     let mut line = Line::new();
@@ -44,11 +44,11 @@ fn listen(rt: &HostRuntime, path: &str, ground: &mut TheGround) -> Result<(), Fa
         if !console::next_line(&mut input, &mut line)? {
             break;
         }
-        if let Err(e) = station_hears(ground, &line) {
+        if let Err(e) = station_hears(station, &line) {
             return Err(console::blame_line(rt, n, e));
         }
-        written = write_due(rt, path, ground, written)?;
-        station_answers(ground, &mut line);
+        written = write_due(rt, path, station, written)?;
+        station_answers(station, &mut line);
         console::print_line(rt, &line)?;
     }
     Ok(())
@@ -61,8 +61,8 @@ fn run(rt: &HostRuntime) -> Result<(), Failure> {
         Err(e) => return Err(console::explain(rt, USAGE, Failure::Refused(e))),
     };
     let mut memory = vec![in rt.alloc(); 0u8; 215000]?;
-    let mut ground = TheGround::open(number, memory.as_mut_slice())?;
-    listen(rt, path, &mut ground)
+    let mut station = TheGround::open(number, memory.as_mut_slice())?;
+    listen(rt, path, &mut station)
 }
 
 fn main(rt: HostRuntime) -> ExitCode {

@@ -57,19 +57,19 @@ impl Line for Tricky {
 // A station that may be called at any time.
 #[derive(Drop)]
 pub struct Shore<'a> {
-    pub ground: Ground<'a>,
-    ghost sound: { Sound ground },
+    pub station: Ground<'a>,
+    ghost sound: { Sound station },
 }
 
 impl<'a> Shore<'a> {
     pub fn heard(&mut self, payload: &[u8; 221]) {
-        self.ground.heard(payload);
+        self.station.heard(payload);
     }
 
     // The answer, if there is one.
     pub fn answer(&self) -> Option<[u8; 221]> {
         let mut out = [0u8; 221];
-        if self.ground.answer(&mut out) {
+        if self.station.answer(&mut out) {
             Some(out)
         } else {
             None
@@ -77,6 +77,6 @@ impl<'a> Shore<'a> {
     }
 
     pub fn hand_over(&self, out: &mut [u8; 214000]) -> u32 {
-        self.ground.hand_over(out)
+        self.station.hand_over(out)
     }
 }

@@ -209,8 +209,8 @@ pub fn section(rt: &HostRuntime) -> anyhow::Result<()> {
     let mut ship = Vessel::new(rt.alloc())?;
     ship.begin(7, &file);
     let mut memory = vec![in rt.alloc(); 0u8; 215000]?;
-    if let Ok(ground) = Ground::open(7, &mut memory) {
-        let mut shore = Shore { ground };
+    if let Ok(station) = Ground::open(7, &mut memory) {
+        let mut shore = Shore { station };
         let mut line = line();
         opening(rt, &mut ship, &mut line, &mut shore)?;
         show_handed(rt, &shore, &file)?;

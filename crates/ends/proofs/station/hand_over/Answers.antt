@@ -10,7 +10,7 @@ no_longer m xs h = let e = length-take (m - 1) xs in omega arith
 
 pub returns : goal.returns
 returns c =
-    let v = receiver_in c.args.ground.now in
+    let v = receiver_in c.args.station.now in
     let old = c.args.out.now in
     record {
       file =

@@ -10,8 +10,8 @@ returns c =
     begun c.args.number c.args.content.now c.args.seed c.args.p
     (record {
       sender = sender_in (record { vessel = c.load.new.self });
-      receiver = receiver_in c.in_ok-ground.ground;
+      receiver = receiver_in c.in_ok-station.station;
       line = c.new.result;
       rounds = 0;
       first = 0;
-    }) c.in_ok-load.ensures.1 c.in_ok-ground.ensures.1 c.new.ensures refl refl
+    }) c.in_ok-load.ensures.1 c.in_ok-station.ensures.1 c.new.ensures refl refl
