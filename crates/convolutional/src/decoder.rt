@@ -7,7 +7,7 @@ ghost use Rattle.convolutional.specs.Lengths.{hard_fits, costs_fit};
 ghost use Rattle.conv_theory.specs.Columns.{Decided, costs_after};
 ghost use Rattle.conv_theory.specs.declared.Cost.{Cost as CostOfBit};
 ghost use Rattle.conv_theory.specs.Code.{sent};
-ghost use Rattle.conv_theory.specs.Search.{best, cost_of_all, heard_bits, hard as hardOf};
+ghost use Rattle.conv_theory.specs.Search.{best, cost_of_all, heard_bits, hard as hard_of};
 ghost use Rattle.conv_theory.specs.Statements.{Cheapest, Nearest};
 
 use crate::lengths::{all_bits, memory_fits};
@@ -44,7 +44,7 @@ fn read_back(decisions: &[[u8; 64]], out: &mut [u8])
 
 fn hard(x: u8) -> Cost
     requires { x < 2 }
-    ensures { result ≡ hardOf x }
+    ensures { result ≡ hard_of x }
 {
     Cost {
         zero: x,
@@ -67,8 +67,8 @@ fn forward_hard(bits: &[u8], decisions: &mut [[u8; 64]]) -> u16
     requires long { length bits.now ≡ 2 * length decisions.old }
     requires few { length bits.now ≤ 32512 }
     requires binary { T (are_bits bits.now) }
-    ensures decided { Decided (map hardOf bits.now) (length decisions.old) decisions.new }
-    ensures cost { result ≡ slice_index (costs_after (map hardOf bits.now) (length decisions.old)) 0 }
+    ensures decided { Decided (map hard_of bits.now) (length decisions.old) decisions.new }
+    ensures cost { result ≡ slice_index (costs_after (map hard_of bits.now) (length decisions.old)) 0 }
 {
     let mut old = start(1 + bits.len() as u16);
     let mut new = [0u16; 64];

@@ -7,7 +7,7 @@ mod frames;
 mod inner;
 mod outer;
 mod show;
-mod transfer;
+mod way;
 
 fn main(rt: HostRuntime) -> anyhow::Result<()> {
     rt.println("Katydidwire, step by step")?;
@@ -17,6 +17,6 @@ fn main(rt: HostRuntime) -> anyhow::Result<()> {
     outer::section(&rt)?;
     inner::section(&rt)?;
     frames::section(&rt)?;
-    transfer::section(&rt)?;
+    way::section(&rt)?;
     Ok(())
 }
