@@ -20,7 +20,7 @@ FORBIDDEN = [
     r"\b[Ii][s]sues?\s+#?\d",
     r"\b\d\d-[s]cope|\b\d\d-[c]hange-requests|\b\d\d-[f]ormal-statements",
     r"\.\./[s]hared\b",
-    r"/[w]ork/|/[o]pt/|/[r]oot/|/[h]ome/",
+    r"/[w]ork/|/[o]pt/|/[r]oot/|/[h]ome/|/[t]mp/",
     r"\b[d]eb\.debian\.org|\b[c]rates\.io|\b[r]egistry\.npmjs",
 ]
 
