@@ -23,8 +23,7 @@ fn code_word(message: &[u8], word: &mut [u8]) -> Result<(), Refusal>
 }
 
 // The code word of 223 bytes: 0.
-#[unsafe(no_mangle)]
-pub extern "C" fn kw_encode(message: &[u8], word: &mut [u8]) -> u32
+pub fn kw_encode(message: &[u8], word: &mut [u8]) -> u32
     ensures { Encodes message.now word.old word.new result }
 {
     match code_word(message, word) {
@@ -34,8 +33,7 @@ pub extern "C" fn kw_encode(message: &[u8], word: &mut [u8]) -> u32
 }
 
 // The code word within 16 places: 1 and the count of bytes changed, or 0 and nothing changed.
-#[unsafe(no_mangle)]
-pub extern "C" fn kw_repair(word: &mut [u8], changed: &mut u32) -> u32
+pub fn kw_repair(word: &mut [u8], changed: &mut u32) -> u32
     ensures { Repairs word.old word.new changed.old changed.new result }
 {
     if word.len() != 255 {
@@ -55,8 +53,7 @@ pub extern "C" fn kw_repair(word: &mut [u8], changed: &mut u32) -> u32
 }
 
 // n bits as 2 (n + 6): 0, or 2 for a byte above 1.
-#[unsafe(no_mangle)]
-pub extern "C" fn kw_inner_encode(bits: &[u8], out: &mut [u8]) -> u32
+pub fn kw_inner_encode(bits: &[u8], out: &mut [u8]) -> u32
     ensures { Spreads bits.now out.old out.new result }
 {
     match convolutional::encode(bits, out) {
@@ -66,8 +63,7 @@ pub extern "C" fn kw_inner_encode(bits: &[u8], out: &mut [u8]) -> u32
 }
 
 // 4,092 bits heard as the 2,040 whose coded bits are nearest: 0, or 2 for a byte above 1.
-#[unsafe(no_mangle)]
-pub extern "C" fn kw_inner_decode(heard: &[u8], out: &mut [u8], cost: &mut u32) -> u32
+pub fn kw_inner_decode(heard: &[u8], out: &mut [u8], cost: &mut u32) -> u32
     ensures { Decodes heard.now out.old out.new cost.old cost.new result }
 {
     if heard.len() != 4092 || out.len() != 2040 {

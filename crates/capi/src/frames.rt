@@ -24,8 +24,7 @@ fn frame_of(payload: &[u8], bits: &mut [u8]) -> Result<(), Refusal>
 }
 
 // The frame of 221 bytes, 4,092 bits: 0.
-#[unsafe(no_mangle)]
-pub extern "C" fn kw_send(payload: &[u8], bits: &mut [u8]) -> u32
+pub fn kw_send(payload: &[u8], bits: &mut [u8]) -> u32
     ensures { Sends payload.now bits.old bits.new result }
 {
     match frame_of(payload, bits) {
@@ -35,8 +34,7 @@ pub extern "C" fn kw_send(payload: &[u8], bits: &mut [u8]) -> u32
 }
 
 // What is heard in the bits: 1 a payload, 0 nothing, 2 not just 4,092 bits or a byte above 1.
-#[unsafe(no_mangle)]
-pub extern "C" fn kw_hear(bits: &[u8], payload: &mut [u8]) -> u32
+pub fn kw_hear(bits: &[u8], payload: &mut [u8]) -> u32
     ensures { Hearing bits.now payload.old payload.new result }
 {
     if payload.len() != 221 {

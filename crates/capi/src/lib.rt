@@ -1,4 +1,4 @@
-// The link for C and for whatever calls C: every buffer comes with its length, and one of another length than it must have is answered with 4 and left as it was.
+// The calls of the C interface: every buffer comes with its length, and one of another length than it must have is answered with 4 and left as it was. The crate capi_c gives them to C.
 #![tactic(auto)]
 
 mod codes;
