@@ -1,6 +1,9 @@
 // What every program does: arguments, lines in and out, whole files, and how it ends. Nothing can be said in a contract of what
-// is read or printed, so these functions are proved safe and ending only; what they hand on is proved in the crates below.
+// is read or printed, so these functions, but for the status of an end, are proved safe and ending only; what they hand on is proved in the crates below.
 #![tactic(auto)]
+
+ghost use Rattle.std.specs.Prelude.{◌≡◌, MatchResult};
+ghost use Rattle.std.specs.Process.{exit_status};
 
 mod files;
 
@@ -137,7 +140,9 @@ pub fn end(rt: &HostRuntime, res: Result<(), Failure>) -> Result<(), Failure> {
 }
 
 // The status that a `main` ends with: 0, or 1 where there was an error, of which `end` has said all that is to be said.
-pub fn exit_code(res: Result<(), Failure>) -> ExitCode {
+pub fn exit_code(res: Result<(), Failure>) -> ExitCode
+    ensures { MatchResult res (λ _. exit_status result ≡ 0) (λ _. exit_status result ≡ 1) }
+{
     match res {
         Ok(()) => ExitCode::SUCCESS,
         Err(_) => ExitCode::FAILURE,
