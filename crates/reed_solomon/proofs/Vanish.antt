@@ -1,6 +1,6 @@
--- A list that is zero everywhere is zeros, and what the residue says of code words. Assumes nothing.
-use Rattle.std.proofs.Common.{◌≡◌, ℕ, zero, suc, ◌<◌, Bool, true, false, T, List, length, get_or, MatchBool, sym, refl, ap, ◌∙◌}
-use Rattle.std.proofs.lemmas.List.{ext_get_or}
+-- What the comparison with zeros says, and what the residue says of code words. Assumes nothing.
+use Rattle.std.proofs.Common.{◌≡◌, ◌≢◌, ℕ, zero, suc, Bool, true, false, T, eqb, List, length, MatchBool, sym, refl, ap}
+use lib.Pointwise.{pointwise, bytes_decides}
 use Rattle.bits.specs.Lists.{zeros}
 use Rattle.rs_theory.specs.Code.{is_codeword}
 use Rattle.rs_theory.specs.Promise.{IsResidue}
@@ -10,14 +10,9 @@ unfolding zeros
 length-zeros zero = refl
 length-zeros (suc n) = ap suc (length-zeros n)
 
-pub get_or-zeros : (n p : ℕ) → get_or (zeros n) p 0 ≡ 0
-unfolding zeros
-get_or-zeros zero p = refl
-get_or-zeros (suc n) zero = refl
-get_or-zeros (suc n) (suc p) = get_or-zeros n p
-
-pub zeros-are : (s : List ℕ) (n : ℕ) → length s ≡ n → ((j : ℕ) → j < length s → get_or s j 0 ≡ 0) → s ≡ zeros n
-zeros-are s n l f = ext_get_or 0 s (zeros n) (l ∙ sym (length-zeros n)) (λ i h. f i h ∙ sym (get_or-zeros n i))
+pub zero-test : (b : Bool) (s zs : List ℕ) → b ≡ pointwise eqb s zs → MatchBool b (s ≡ zs) (s ≢ zs)
+zero-test true s zs e = (bytes_decides s zs).0 (sym e)
+zero-test false s zs e = λ z. let t : pointwise eqb s zs ≡ true = (bytes_decides s zs).1 z in cc
 
 from-true : (b : Bool) → T b → true ≡ b
 from-true true t = refl

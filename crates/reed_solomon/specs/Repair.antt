@@ -4,14 +4,22 @@ use Rattle.bits.specs.Lists.{are_bytes, zeros}
 use Rattle.bits.specs.Distance.{distance}
 use Rattle.rs_theory.specs.Code.{is_codeword, Far}
 
+-- v is a code word k places from w, and k is 16 at most
+abbrev pub IsNear : List ℕ → List ℕ → ℕ → Type 0
+IsNear w v k = T (is_codeword v) × (distance v w ≡ k) × (k ≤ 16)
+
+-- P holds of each code word within 16 places of w
+abbrev pub EachNear : List ℕ → (List ℕ → Type 0) → Type 0
+EachNear w P = (c : List ℕ) → T (is_codeword c) → distance c w ≤ 16 → P c
+
 -- the word w became v: a code word within 16 places, k of them changed; or nothing was changed, and there is no such code word
 abbrev pub Repaired : List ℕ → Option ℕ → List ℕ → Type 0
-Repaired w (Some k) v = T (is_codeword v) × (distance v w ≡ k) × (k ≤ 16)
+Repaired w (Some k) v = IsNear w v k
 Repaired w None v = (v ≡ w) × Far w
 
 -- every code word within 16 places is found
 abbrev pub Found : List ℕ → Option ℕ → List ℕ → Type 0
-Found w r v = (c : List ℕ) → T (is_codeword c) → distance c w ≤ 16 → (r ≡ Some (distance c w)) × (v ≡ c)
+Found w r v = EachNear w (λ c. (r ≡ Some (distance c w)) × (v ≡ c))
 
 -- one byte that is not zero is always repaired to zeros; seventeen never are
 pub record SmallCases : Type 0 where

@@ -1,35 +1,36 @@
 // The decoder: syndromes, and the repair by them.
-ghost use Rattle.std.specs.Prelude.{◌≡◌, ℕ, suc, ◌<◌, ◌≤◌, T, List, MatchBool, MatchOption, ◌≢◌, bit_xor, slice_index};
+ghost use Rattle.std.specs.Prelude.{◌≡◌, ℕ, suc, ◌<◌, T, slice_index, MatchBool, MatchOption, ◌≢◌};
 ghost use Rattle.bits.specs.Distance.{distance};
 ghost use Rattle.bits.specs.Lists.{zeros};
-ghost use Rattle.gf256.specs.Field.{product, power};
+ghost use Rattle.gf256.specs.Field.{power};
 ghost use Rattle.rs_theory.specs.Code.{is_codeword};
 ghost use Rattle.rs_decoding.specs.Search.{InKernel};
 ghost use Rattle.reed_solomon.specs.Syndromes.{AreSyndromes};
-ghost use Rattle.reed_solomon.specs.Repair.{Repaired, Found};
+ghost use Rattle.reed_solomon.specs.Repair.{IsNear, EachNear, Repaired, Found};
 
 use crate::Word;
 use crate::encoder::residue;
-use gf256::{mul, power_of_two};
-use rs_decoding::errors::{correct, find_roots, values};
+use gf256::power_of_two;
+use rs_decoding::errors::{correct, find_roots};
+use rs_decoding::polynomial::{Polynomial, take_in};
 use rs_decoding::search::kernel;
+use std::array;
 
-// One byte further by Horner's rule, at 2^1 .. 2^32 at once.
-fn take_in(s: &mut [u8; 32], b: u8)
-    ensures { (j : ℕ) → j < 32 → slice_index s.new j ≡ bit_xor (product (slice_index s.old j) (power 2 (suc j))) b }
+// The points of the syndromes, 2^1 .. 2^32.
+fn powers() -> [u8; 32]
+    ensures { (j : ℕ) → j < 32 → slice_index result j ≡ power 2 (suc j) }
 {
-    for j in 0..32usize {
-        s[j] = mul(s[j], power_of_two(j + 1)) ^ b;
-    }
+    array::from_fn(|j| power_of_two(j + 1))
 }
 
 // The values at 2^1 .. 2^32 of what is left of a word by division.
 fn values_at_powers(rest: &[u8; 32]) -> [u8; 32]
     ensures { AreSyndromes result rest.now }
 {
+    let powers = powers();
     let mut s = [0; 32];
     for b in rest {
-        take_in(&mut s, *b);
+        take_in(&mut s, &powers, *b);
     }
     s
 }
@@ -37,12 +38,7 @@ fn values_at_powers(rest: &[u8; 32]) -> [u8; 32]
 fn all_zero(s: &[u8; 32]) -> bool
     ensures { MatchBool result (s.now ≡ zeros 32) (s.now ≢ zeros 32) }
 {
-    for x in s {
-        if *x != 0 {
-            return false;
-        }
-    }
-    true
+    *s == [0; 32]
 }
 
 fn vanishing(bytes: &[u8; 255]) -> bool
@@ -56,59 +52,41 @@ fn vanishing(bytes: &[u8; 255]) -> bool
 fn differences(a: &[u8; 255], b: &[u8; 255]) -> usize
     ensures { result ≡ distance a.now b.now }
 {
-    let mut count = 0;
-    for i in 0..255usize {
-        if a[i] != b[i] {
-            count += 1;
-        }
-    }
-    count
+    a.iter().zip(b).filter(|&(x, y)| *x != *y).count()
 }
 
 // The word without the errors at the roots of the polynomial, if they are no more than 16.
-fn corrected_by(
-    coefficients: &[u8; 17],
-    degree: usize,
-    bytes: &[u8; 255],
-    s: &[u8; 32],
-) -> Option<Word>
-    requires kernel { InKernel 16 degree s.now coefficients.now }
+fn corrected_by(polynomial: &Polynomial, bytes: &[u8; 255], s: &[u8; 32]) -> Option<Word>
+    requires kernel { InKernel 16 polynomial.now.degree s.now polynomial.now.coefficients }
     requires syndromes { AreSyndromes s.now bytes.now }
-    ensures { (c : List ℕ) → T (is_codeword c) → distance c bytes.now ≤ 16 → MatchOption result ⊥ (λ v. v.bytes ≡ c) }
+    ensures { EachNear bytes.now (λ c. MatchOption result ⊥ (λ v. v.bytes ≡ c)) }
 {
-    let values = values(coefficients, degree);
-    let Some(roots) = find_roots(&values) else {
-        return None;
-    };
+    let values = polynomial.values();
+    let roots = find_roots(&values)?;
     let mut word = *bytes;
-    correct(&mut word, &values, &roots.found[0..roots.count], s);
+    correct(&mut word, &values, &roots, s);
     Some(Word { bytes: word })
 }
 
 // The code word within 16 places, if there is one.
 fn candidate(bytes: &[u8; 255], s: &[u8; 32]) -> Option<Word>
     requires { AreSyndromes s.now bytes.now }
-    ensures { (c : List ℕ) → T (is_codeword c) → distance c bytes.now ≤ 16 → MatchOption result ⊥ (λ v. v.bytes ≡ c) }
+    ensures { EachNear bytes.now (λ c. MatchOption result ⊥ (λ v. v.bytes ≡ c)) }
 {
-    let polynomial = kernel(s, 16);
-    corrected_by(&polynomial.coefficients, polynomial.degree, bytes, s)
+    corrected_by(&kernel(s, 16), bytes, s)
 }
 
 // How many places were changed, if that led to a code word at no more than 16 places.
 fn checked(word: &[u8; 255], bytes: &[u8; 255]) -> Option<usize>
-    ensures { MatchOption result (T (is_codeword word.now) → 16 < distance word.now bytes.now) (λ k. T (is_codeword word.now) × (distance word.now bytes.now ≡ k) × (k ≤ 16)) }
+    ensures { MatchOption result (T (is_codeword word.now) → 16 < distance word.now bytes.now) (IsNear bytes.now word.now) }
 {
     let changed = differences(word, bytes);
-    if changed <= 16 && vanishing(word) {
-        Some(changed)
-    } else {
-        None
-    }
+    (changed <= 16 && vanishing(word)).then_some(changed)
 }
 
 // The code word within 16 places takes the word's place, or nothing is changed.
 fn repair_bytes(bytes: &mut [u8; 255]) -> Option<usize>
-    ensures right { MatchOption result (bytes.new ≡ bytes.old) (λ k. T (is_codeword bytes.new) × (distance bytes.new bytes.old ≡ k) × (k ≤ 16)) }
+    ensures right { MatchOption result (bytes.new ≡ bytes.old) (IsNear bytes.old bytes.new) }
     ensures found { Found bytes.old result bytes.new }
 {
     let rest = residue(bytes);
@@ -116,12 +94,8 @@ fn repair_bytes(bytes: &mut [u8; 255]) -> Option<usize>
         return Some(0);
     }
     let s = values_at_powers(&rest);
-    let Some(word) = candidate(bytes, &s) else {
-        return None;
-    };
-    let Some(changed) = checked(&word.bytes, bytes) else {
-        return None;
-    };
+    let word = candidate(bytes, &s)?;
+    let changed = checked(&word.bytes, bytes)?;
     *bytes = word.bytes;
     Some(changed)
 }

@@ -1,5 +1,5 @@
 // The encoder: the message goes byte by byte through a register that divides it by the generator.
-ghost use Rattle.std.specs.Prelude.{◌≡◌, ◌*◌, ◌<◌, [], ◌++◌, take, drop, bit_xor, slice_index};
+ghost use Rattle.std.specs.Prelude.{◌≡◌, ℕ, ◌≤◌, [], ◌++◌, length, drop, bit_xor, slice_index};
 ghost use Rattle.bits.specs.Lists.{zeros};
 ghost use Rattle.rs_theory.specs.Code.{generator, feed, remainder, encode as encoding};
 ghost use Rattle.rs_theory.specs.Promise.{IsResidue};
@@ -7,52 +7,55 @@ ghost use Rattle.rs_theory.specs.Promise.{IsResidue};
 use crate::Word;
 use crate::rows::{HIGH, LOW};
 
-// n times the generator
-fn low_row(n: u8) -> &'static [u8; 32]
-    requires { n < 16 }
-    ensures { result.now ≡ feed n (generator 32) [] }
+// Adds the other bytes, place by place.
+fn add(sum: &mut [u8; 32], other: &[u8])
+    requires { length other.now ≤ 32 }
+    ensures { (k : ℕ) → slice_index sum.new k ≡ bit_xor (slice_index sum.old k) (slice_index other.now k) }
 {
-    &LOW[n as usize]
-}
-
-// 16 n times the generator
-fn high_row(n: u8) -> &'static [u8; 32]
-    requires { n < 16 }
-    ensures { result.now ≡ feed (16 * n) (generator 32) [] }
-{
-    &HIGH[n as usize]
-}
-
-// One byte of the message: the register moves up by one place, and the generator is added as often as the byte that leaves asks for.
-// The last place only stands for the zero that moves in.
-fn step(register: &mut [u8; 33], m: u8)
-    ensures { register.new ≡ feed (bit_xor m (slice_index register.old 0)) (generator 32) (drop 1 register.old) ++ drop 32 register.old }
-{
-    let f = m ^ register[0];
-    let low = low_row(f & 15);
-    let high = high_row(f >> 4);
-    for i in 0..32usize {
-        register[i] = register[i + 1] ^ (low[i] ^ high[i]);
+    // by place: of a slice written through `zip` a proof knows the length alone
+    for (i, byte) in other.iter().enumerate() {
+        sum[i] ^= *byte;
     }
 }
 
-// The message and the register, without its last place.
-fn joined(message: &[u8; 223], register: &[u8; 33]) -> [u8; 255]
-    ensures { result ≡ message.now ++ take 32 register.now }
+// f times the generator: the tables have the multiples for each half of f.
+fn multiple(f: u8) -> [u8; 32]
+    ensures { result ≡ feed f (generator 32) [] }
 {
-    let mut bytes = [0u8; 255];
+    // each row behind a reference: a row taken out as a value is slower, since the whole table is copied for it
+    let low = &LOW[usize::from(f & 15)];
+    let high = &HIGH[usize::from(f >> 4)];
+    let mut sum = *low;
+    add(&mut sum, high);
+    sum
+}
+
+// One byte of the message: the register moves up by one place, a zero moves in, and the generator is added as often as the byte that leaves asks for.
+fn step(register: &[u8; 32], m: u8) -> [u8; 32]
+    ensures { result ≡ feed (bit_xor m (slice_index register.now 0)) (generator 32) (drop 1 register.now) }
+{
+    let mut next = multiple(m ^ register[0]);
+    add(&mut next, &register[1..]);
+    next
+}
+
+// The message and the register.
+fn joined(message: &[u8; 223], register: &[u8; 32]) -> [u8; 255]
+    ensures { result ≡ message.now ++ register.now }
+{
+    let mut bytes = [0; 255];
     bytes[..223].copy_from_slice(message);
-    bytes[223..].copy_from_slice(&register[..32]);
+    bytes[223..].copy_from_slice(register);
     bytes
 }
 
 // What the register holds once the whole message has gone through it.
-fn divided(message: &[u8]) -> [u8; 33]
-    ensures { take 32 result ≡ remainder (generator 32) message.now (zeros 32) }
+fn divided(message: &[u8]) -> [u8; 32]
+    ensures { result ≡ remainder (generator 32) message.now (zeros 32) }
 {
-    let mut register = [0u8; 33];
+    let mut register = [0; 32];
     for m in message {
-        step(&mut register, *m);
+        register = step(&register, *m);
     }
     register
 }
@@ -70,10 +73,7 @@ pub fn encode(message: &[u8; 223]) -> Word
 pub fn residue(bytes: &[u8; 255]) -> [u8; 32]
     ensures { IsResidue bytes.now result }
 {
-    let register = divided(&bytes[..223]);
-    let mut out = [0u8; 32];
-    for i in 0..32usize {
-        out[i] = register[i] ^ bytes[223 + i];
-    }
-    out
+    let mut rest = divided(&bytes[..223]);
+    add(&mut rest, &bytes[223..]);
+    rest
 }

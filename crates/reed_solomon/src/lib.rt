@@ -10,7 +10,7 @@ pub use encoder::{encode, residue};
 pub use theorems::small_cases_stand;
 
 // A word: the coefficients of a polynomial, the highest first.
-#[derive(Clone, Copy)]
+#[derive(Clone, Copy, Debug, PartialEq, Eq)]
 pub struct Word {
     pub bytes: [u8; 255],
 }

@@ -1,19 +1,9 @@
 -- One turn of the loops that find the roots, free the syndromes and take the errors off. Assumes nothing.
 use Rattle.std.proofs.Common.{◌≡◌, ℕ, zero, suc, ◌+◌, ◌-◌, ◌<◌, ◌≤◌, cond, eqb, List, [], ◌∷◌, ◌++◌, length, get_or, take, drop, set, sym, refl, ap, ◌∙◌, ap₂, append_assoc, le_of_suc-le-suc, not-suc-le-zero, arith, length-append, length-drop}
-use Rattle.std.proofs.lemmas.List.{drop_more, drop_all, take_more, take_more_set, take-append-drop, length-take-le, drop-set-lt, append-nil, ext_get_or}
+use Rattle.std.proofs.lemmas.List.{drop_more, drop_all, take_more, take_more_set, take-append-drop, drop-set-lt, append-nil, ext_get_or}
 use Rattle.std.proofs.lemmas.Bool.{eq-eqb, ne_eqb}
-use Rattle.bits.specs.Distance.{differ, distance}
-use Rattle.bits.proofs.Hamming.{differ_same, differ-not}
-use Rattle.gf256.specs.Field.{power}
 use Rattle.gf256.proofs.Ring.{◌⊕◌, ◌⊙◌}
-use Rattle.rs_theory.proofs.Value.{locators, get_or-locators}
 use Rattle.rs_decoding.specs.Decoding.{evaluate, values_of, roots_of, peel, peel_others, others, value_at, corrected}
-
--- the locator of place p
-pub locator-is : (p r : ℕ) → p < 255 → r ≡ power 2 (254 - p) → r ≡ get_or (locators 255) p 0
-locator-is p r h e =
-    let q : 254 - p ≡ 255 - suc p = omega arith in
-    e ∙ ap (power 2) q ∙ sym (get_or-locators 255 p h)
 
 -- ---- the values at all locators
 length-values : (l xs : List ℕ) → length (values_of l xs) ≡ length xs
@@ -41,14 +31,13 @@ roots-hit-at : (p : ℕ) (vs xs : List ℕ) → p < length vs → p < length xs 
     roots_of (drop p vs) (drop p xs) ≡ get_or xs p 0 ∷ roots_of (drop (p + 1) vs) (drop (p + 1) xs)
 roots-hit-at p vs xs h g e = roots-at p vs xs h g ∙ rw (eq-eqb (get_or vs p 0) 0 e) refl
 
-pub roots-hit : (p count x : ℕ) (found vs xs whole : List ℕ) → p < length vs → p < length xs → count < length found → get_or vs p 0 ≡ 0 → x ≡ get_or xs p 0 →
-    take count found ++ roots_of (drop p vs) (drop p xs) ≡ whole → take (count + 1) (set found count x) ++ roots_of (drop (p + 1) vs) (drop (p + 1) xs) ≡ whole
-roots-hit p count x found vs xs whole h g l z e i =
+pub roots-hit : (p x : ℕ) (front vs xs whole : List ℕ) → p < length vs → p < length xs → get_or vs p 0 ≡ 0 → x ≡ get_or xs p 0 →
+    front ++ roots_of (drop p vs) (drop p xs) ≡ whole → (front ++ x ∷ []) ++ roots_of (drop (p + 1) vs) (drop (p + 1) xs) ≡ whole
+roots-hit p x front vs xs whole h g z e i =
     let rest : List ℕ = roots_of (drop (p + 1) vs) (drop (p + 1) xs) in
-    ap (λ (a : List ℕ). a ++ rest) (take_more_set found count x l)
-    ∙ append_assoc (take count found) (x ∷ []) rest
-    ∙ ap (λ (n : ℕ). take count found ++ (n ∷ rest)) e
-    ∙ ap (λ (a : List ℕ). take count found ++ a) (sym (roots-hit-at p vs xs h g z))
+    append_assoc front (x ∷ []) rest
+    ∙ ap (λ (n : ℕ). front ++ (n ∷ rest)) e
+    ∙ ap (λ (a : List ℕ). front ++ a) (sym (roots-hit-at p vs xs h g z))
     ∙ i
 
 pub roots-miss : (p : ℕ) (front vs xs whole : List ℕ) → p < length vs → p < length xs → (get_or vs p 0 ≡ 0 → ⊥) →
@@ -61,15 +50,12 @@ unfolding roots_of
 roots-end p front vs xs whole h i = sym (ap (λ (a : List ℕ). front ++ roots_of a xs) (drop_all p vs h) ∙ append-nil front) ∙ i
 
 -- one root more than there is place for
-pub roots-many : (p count : ℕ) (found vs xs whole : List ℕ) → p < length vs → p < length xs → count ≤ length found → get_or vs p 0 ≡ 0 →
-    take count found ++ roots_of (drop p vs) (drop p xs) ≡ whole → count < length whole
-roots-many p count found vs xs whole h g l z i =
+pub roots-many : (p : ℕ) (front vs xs whole : List ℕ) → p < length vs → p < length xs → get_or vs p 0 ≡ 0 →
+    front ++ roots_of (drop p vs) (drop p xs) ≡ whole → length front < length whole
+roots-many p front vs xs whole h g z i =
     let rest : List ℕ = roots_of (drop (p + 1) vs) (drop (p + 1) xs) in
-    let n : length (take count found ++ (get_or xs p 0 ∷ rest)) ≡ length whole =
-    ap length (ap (λ (a : List ℕ). take count found ++ a) (sym (roots-hit-at p vs xs h g z)) ∙ i) in
-    let m : length (take count found ++ (get_or xs p 0 ∷ rest)) ≡ length (take count found) + suc (length rest) = length-append (take count found) (get_or xs p 0 ∷ rest) in
-    let t : length (take count found) ≡ count = length-take-le count found l in
-    omega arith
+    let n : length (front ++ (get_or xs p 0 ∷ rest)) ≡ length whole = ap length (ap (λ (a : List ℕ). front ++ a) (sym (roots-hit-at p vs xs h g z)) ∙ i) in
+    omega (arith, length-append front (get_or xs p 0 ∷ rest))
 
 -- ---- peeling
 peel-at : (n y j : ℕ) (t : List ℕ) → j + 1 < length t → peel (suc n) y (drop j t) ≡ (get_or t (j + 1) 0 ⊕ (y ⊙ get_or t j 0)) ∷ peel n y (drop (j + 1) t)
@@ -167,22 +153,3 @@ pub corrected-end : (p : ℕ) (vs ys t ws xs whole : List ℕ) → length vs ≤
 unfolding corrected
 corrected-end p vs ys t ws xs whole h i =
     sym (ap (λ (a : List ℕ). take p ws ++ corrected a ys t (drop p ws) xs) (drop_all p vs h) ∙ take-append-drop p ws) ∙ i
-
--- ---- counting differences
-distance-at : (i : ℕ) (a b : List ℕ) → i < length a → i < length b → distance (drop i a) (drop i b) ≡ differ (get_or a i 0) (get_or b i 0) + distance (drop (i + 1) a) (drop (i + 1) b)
-unfolding distance
-distance-at i a b h g = ap₂ distance (drop_more a i 0 h) (drop_more b i 0 g)
-
-pub distance-hit : (i n whole : ℕ) (a b : List ℕ) → i < length a → i < length b → (get_or a i 0 ≡ get_or b i 0 → ⊥) → n + distance (drop i a) (drop i b) ≡ whole →
-    (n + 1) + distance (drop (i + 1) a) (drop (i + 1) b) ≡ whole
-distance-hit i n whole a b h g ne e = omega (arith, distance-at i a b h g, differ-not (get_or a i 0) (get_or b i 0) ne, e)
-
-pub distance-miss : (i n whole : ℕ) (a b : List ℕ) → i < length a → i < length b → get_or a i 0 ≡ get_or b i 0 → n + distance (drop i a) (drop i b) ≡ whole →
-    n + distance (drop (i + 1) a) (drop (i + 1) b) ≡ whole
-distance-miss i n whole a b h g q e = omega (arith, distance-at i a b h g, differ_same (get_or a i 0) (get_or b i 0) q, e)
-
-pub distance-end : (i n whole : ℕ) (a b : List ℕ) → length a ≤ i → length b ≤ i → n + distance (drop i a) (drop i b) ≡ whole → n ≡ whole
-unfolding distance
-distance-end i n whole a b h g e =
-    let z : distance (drop i a) (drop i b) ≡ 0 = ap₂ distance (drop_all i a h) (drop_all i b g) in
-    omega arith

@@ -7,5 +7,5 @@ pub mod Pivots
 pub mod Steps
 pub mod Reduce
 pub mod ErrorSteps
-mod Zero
+mod Products
 pub mod Known

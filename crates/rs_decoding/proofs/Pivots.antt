@@ -1,10 +1,7 @@
--- Vectors with a pivot in each row: what adding a multiple of one to another does, and that seventeen do not find place in sixteen rows. Assumes nothing.
-use Rattle.std.proofs.Common.{◌≡◌, ℕ, zero, suc, ◌%◌, ◌<◌, ◌≤◌, List, [], ◌∷◌, length, get_or, set, sym, refl, ap, ◌∙◌, suc-le-suc, zero-le, le_of_suc-le-suc, not-suc-le-zero, arith}
-use Rattle.bits.specs.Distance.{differ}
-use Rattle.bits.proofs.Hamming.{differ_same, differ-not, differ-le}
+-- What adding a multiple of one vector to another does. Assumes nothing.
+use Rattle.std.proofs.Common.{◌≡◌, ℕ, zero, suc, ◌%◌, ◌<◌, List, [], ◌∷◌, length, get_or, sym, refl, ap, ◌∙◌, arith}
 use Rattle.gf256.specs.Field.{inverse}
 use Rattle.gf256.proofs.Ring.{◌⊕◌, ◌⊙◌, ring, ⊙-zero-r, ⊕-zero-r, ⊕-self, ⊙-comm, ⊙-assoc, ⊙-inverse, ⊙-one}
-use Rattle.rs_theory.proofs.Sum.{weight}
 use Rattle.rs_decoding.specs.Decoding.{dot, combine}
 
 both-linear : (u v c b m n : ℕ) → ((u ⊕ (c ⊙ v)) ⊙ b) ⊕ (m ⊕ (c ⊙ n)) ≡ ((u ⊙ b) ⊕ m) ⊕ (c ⊙ ((v ⊙ b) ⊕ n))
@@ -40,27 +37,3 @@ clears d a hd ha ne =
     let same : a % 256 ≡ a = omega (arith, ha) in
     let i : a ⊙ inverse a ≡ 1 = ap (λ (n : ℕ). a ⊙ inverse n) (sym same) ∙ ⊙-inverse a (λ e. ne (sym same ∙ e)) in
     ap (λ (n : ℕ). d ⊕ n) (⊙-assoc d (inverse a) a ∙ ap (λ (n : ℕ). d ⊙ n) (⊙-comm (inverse a) a ∙ i) ∙ ⊙-comm d 1 ∙ ⊙-one d hd) ∙ ⊕-self d
-
--- ---- counting the rows that have a pivot
-pub weight-set : (hs : List ℕ) (i d : ℕ) → i < length hs → get_or hs i 0 ≡ 0 → (d ≡ 0 → ⊥) → weight (set hs i d) ≡ suc (weight hs)
-unfolding weight
-weight-set [] i d h e ne = absurd (not-suc-le-zero h)
-weight-set (a ∷ hs) zero d h e ne =
-    let p : differ a 0 ≡ 0 = differ_same a 0 e in
-    let q : differ d 0 ≡ 1 = differ-not d 0 ne in
-    omega arith
-weight-set (a ∷ hs) (suc i) d h e ne =
-    let r : weight (set hs i d) ≡ suc (weight hs) = weight-set hs i d (le_of_suc-le-suc h) e ne in
-    omega arith
-
-pub weight-within : (hs : List ℕ) (n : ℕ) → ((i : ℕ) → n ≤ i → get_or hs i 0 ≡ 0) → weight hs ≤ n
-unfolding weight
-weight-within [] n f = zero-le
-weight-within (a ∷ hs) zero f =
-    let p : differ a 0 ≡ 0 = differ_same a 0 (f zero zero-le) in
-    let r : weight hs ≤ 0 = weight-within hs zero (λ i h. f (suc i) zero-le) in
-    omega arith
-weight-within (a ∷ hs) (suc n) f =
-    let p : differ a 0 ≤ 1 = differ-le a 0 in
-    let r : weight hs ≤ n = weight-within hs n (λ i h. f (suc i) (suc-le-suc h)) in
-    omega arith

@@ -1,100 +1,139 @@
 -- The search row by row: what one row does to a vector, and what a new pivot does to the others. Assumes nothing.
-use Rattle.std.proofs.Common.{◌≡◌, ℕ, suc, ◌+◌, ◌<◌, ◌≤◌, ◌≢◌, List, [], length, get_or, drop, set, replicate, sym, ap, ◌∙◌, ap₂, ⊎_elim, le_refl, arith, below_more}
-use Rattle.std.proofs.lemmas.Bool.{cases_eq, cases_lt}
-use Rattle.std.proofs.lemmas.List.{get_or-set_same, get_or-set_other, get_or-replicate, get_or_past, length-replicate}
+use Rattle.std.proofs.Common.{◌≡◌, ℕ, suc, zero, ◌+◌, ◌<◌, ◌≤◌, ◌≢◌, T, List, [], ◌∷◌, length, get_or, drop, set, replicate, Option, Some, None, sym, refl, ap, ◌∙◌, ap₂, subst, ⊎_elim, le_refl, le_of_suc-le-suc, not-suc-le-zero, zero-le, suc-le-suc, arith, below_more}
+use Rattle.std.proofs.lemmas.Bool.{cases_eq}
+use Rattle.std.proofs.lemmas.List.{get_or-set_same, get_or-set_other, length-replicate}
+use Rattle.bits.specs.Lists.{are_bytes}
 use Rattle.gf256.specs.Field.{inverse}
-use Rattle.gf256.proofs.Ring.{◌⊕◌, ◌⊙◌}
-use Rattle.rs_theory.proofs.Sum.{weight}
+use Rattle.gf256.proofs.Ring.{◌⊕◌, ◌⊙◌, ⊕-below, ⊙-below}
 use Rattle.rs_decoding.specs.Decoding.{dot, combine}
-use Rattle.rs_decoding.specs.Search.{Topped, Pivots, Reduced}
-use Rattle.rs_decoding.proofs.Pivots.{dot-combine, combine-at, combine-none, clears, weight-set, weight-within}
+use Rattle.rs_decoding.specs.Search.{Topped, IsPivot, Pivots, Reduced, FitsRow, pivot_at, pivot_count}
+use Rattle.rs_decoding.specs.declared.search.Pivot.{Pivot}
+use Rattle.rs_decoding.proofs.Bytes.{under-head, under_tail, under-cons}
+use Rattle.rs_decoding.proofs.Pivots.{dot-combine, combine-at, combine-none, clears}
 
--- u is orthogonal to the rows before i, and as long as the pivots allow
-abbrev pub Clear : ℕ → List ℕ → List ℕ → List ℕ → Type 0
-Clear i s heads u = Topped (weight heads) u × ((q : ℕ) → q < i → dot u (drop q s) ≡ 0)
+dot-below : (us vs : List ℕ) → dot us vs < 256
+unfolding dot
+dot-below [] vs = omega arith
+dot-below (u ∷ us) [] = omega arith
+dot-below (u ∷ us) (v ∷ vs) = ⊕-below (u ⊙ v) (dot us vs) (⊙-below u v) (dot-below us vs)
+
+length-combine : (c : ℕ) (us vs : List ℕ) → length (combine c us vs) ≡ length us
+unfolding combine
+length-combine c [] vs = refl
+length-combine c (u ∷ us) [] = refl
+length-combine c (u ∷ us) (v ∷ vs) = ap suc (length-combine c us vs)
+
+bytes-combine : (c : ℕ) (us vs : List ℕ) → T (are_bytes us) → T (are_bytes (combine c us vs))
+unfolding combine
+bytes-combine c [] vs t = t
+bytes-combine c (u ∷ us) [] t = t
+bytes-combine c (u ∷ us) (v ∷ vs) t = under-cons (u ⊕ (c ⊙ v)) (combine c us vs) (⊕-below u (c ⊙ v) (under-head u us t) (⊙-below c v)) (bytes-combine c us vs (under_tail u us t))
 
 -- a row to which u is orthogonal already
-pub clear-more : (i : ℕ) (s heads u : List ℕ) → Clear i s heads u → dot u (drop i s) ≡ 0 → Clear (i + 1) s heads u
-clear-more i s heads u h e = (h.0, below_more (λ q. dot u (drop q s) ≡ 0) i h.1 e)
+pub reduced-more : (i k : ℕ) (s u : List ℕ) → Reduced i k s u → dot u (drop i s) ≡ 0 → Reduced (i + 1) k s u
+reduced-more i k s u r e = record { topped = r.topped; clear = below_more (λ q. dot u (drop q s) ≡ 0) i r.clear e; wide = r.wide; bytes = r.bytes }
 
 -- a row that has a pivot v
-pub clear-by : (n i : ℕ) (s heads : List ℕ) (vectors : List (List ℕ)) (u v r : List ℕ) (d c : ℕ) → i < n → Pivots n s heads vectors →
-    v ≡ get_or vectors i [] → length u ≡ length v → (get_or heads i 0 ≡ 0 → ⊥) → get_or heads i 0 < 256 → d < 256 → d ≡ dot u (drop i s) →
-    c ≡ d ⊙ inverse (get_or heads i 0) → r ≡ combine c u v → Clear i s heads u → Clear (i + 1) s heads r
-clear-by n i s heads vectors u v r d c h p ve lu ne hb db de ce re cl =
-    let k : ℕ = weight heads in
-    let at : (j : ℕ) → get_or r j 0 ≡ get_or u j 0 ⊕ (c ⊙ get_or v j 0) = λ j. ap (λ (l : List ℕ). get_or l j 0) re ∙ combine-at c u v j lu in
-    let vz : (j : ℕ) → k ≤ j → get_or v j 0 ≡ 0 = λ j g. ap (λ (l : List ℕ). get_or l j 0) ve ∙ p.short i j h ne g in
-    let same : (j : ℕ) → k ≤ j → get_or r j 0 ≡ get_or u j 0 = λ j g. at j ∙ combine-none (get_or u j 0) c (get_or v j 0) (vz j g) in
-    let prod : (q : ℕ) → dot r (drop q s) ≡ dot u (drop q s) ⊕ (c ⊙ dot v (drop q s)) = λ q. ap (λ (l : List ℕ). dot l (drop q s)) re ∙ dot-combine c u v (drop q s) lu in (
-      record { one = same k (le_refl k) ∙ cl.0.one; above = λ j g. same j (omega arith) ∙ cl.0.above j g },
-      below_more (λ q. dot r (drop q s) ≡ 0) i
-          (λ q g. prod q ∙ combine-none (dot u (drop q s)) c (dot v (drop q s)) (ap (λ (l : List ℕ). dot l (drop q s)) ve ∙ p.before i q h ne g) ∙ cl.1 q g)
-          (prod i
-          ∙ ap₂ (λ (a b : ℕ). a ⊕ (c ⊙ b)) (sym de) (ap (λ (l : List ℕ). dot l (drop i s)) ve ∙ p.here i h ne)
-          ∙ ap (λ (a : ℕ). d ⊕ (a ⊙ get_or heads i 0)) ce
-          ∙ clears d (get_or heads i 0) db hb ne),
-    )
+pub reduced-by : (i k : ℕ) (s u r : List ℕ) (v : Pivot) (d c : ℕ) → IsPivot k i s v → d ≡ dot u (drop i s) → c ≡ d ⊙ inverse v.head → r ≡ combine c u v.vector →
+    Reduced i k s u → Reduced (i + 1) k s r
+reduced-by i k s u r v d c p de ce re cl =
+    let lu : length u ≡ length v.vector = cl.wide ∙ sym p.wide in
+    let hb : v.head < 256 = subst (λ (n : ℕ). n < 256) p.here (dot-below v.vector (drop i s)) in
+    let db : d < 256 = subst (λ (n : ℕ). n < 256) (sym de) (dot-below u (drop i s)) in
+    let at : (j : ℕ) → get_or r j 0 ≡ get_or u j 0 ⊕ (c ⊙ get_or v.vector j 0) = λ j. ap (λ (l : List ℕ). get_or l j 0) re ∙ combine-at c u v.vector j lu in
+    let same : (j : ℕ) → k ≤ j → get_or r j 0 ≡ get_or u j 0 = λ j g. at j ∙ combine-none (get_or u j 0) c (get_or v.vector j 0) (p.short j g) in
+    let prod : (q : ℕ) → dot r (drop q s) ≡ dot u (drop q s) ⊕ (c ⊙ dot v.vector (drop q s)) = λ q. ap (λ (l : List ℕ). dot l (drop q s)) re ∙ dot-combine c u v.vector (drop q s) lu in
+    record {
+      topped = record { one = same k (le_refl k) ∙ cl.topped.one; above = λ j g. same j (omega arith) ∙ cl.topped.above j g };
+      clear = below_more (λ q. dot r (drop q s) ≡ 0) i
+          (λ q g. prod q ∙ combine-none (dot u (drop q s)) c (dot v.vector (drop q s)) (p.before q g) ∙ cl.clear q g)
+          (prod i ∙ ap₂ (λ (a b : ℕ). a ⊕ (c ⊙ b)) (sym de) p.here ∙ ap (λ (a : ℕ). d ⊕ (a ⊙ v.head)) ce ∙ clears d v.head db hb p.nonzero);
+      wide = ap length re ∙ length-combine c u v.vector ∙ cl.wide;
+      bytes = subst (λ (l : List ℕ). T (are_bytes l)) (sym re) (bytes-combine c u v.vector cl.bytes);
+    }
 
 -- ---- the pivots
-none-at : (n i : ℕ) → get_or {A = ℕ} (replicate n 0) i 0 ≡ 0
-none-at n i = ⊎_elim (λ h. get_or-replicate n i 0 0 h) (λ h. get_or_past (replicate n 0) i 0 (omega (arith, length-replicate {A = ℕ} n 0))) (cases_lt i n)
+count-none : (m : ℕ) → pivot_count (replicate m None) ≡ 0
+unfolding pivot_count
+count-none zero = refl
+count-none (suc m) = count-none m
 
-pub weight-none : (n : ℕ) → weight (replicate n 0) ≡ 0
-weight-none n = let h : weight (replicate n 0) ≤ 0 = weight-within (replicate n 0) 0 (λ i g. none-at n i) in omega arith
+none-at : (m i : ℕ) → pivot_at (replicate m None) i ≡ None
+none-at zero i = refl
+none-at (suc m) zero = refl
+none-at (suc m) (suc i) = none-at m i
 
-pub pivots-none : (n m : ℕ) (s : List ℕ) (vectors : List (List ℕ)) → Pivots n s (replicate m 0) vectors
-pivots-none n m s vectors =
-    record {
-      here = λ i h ne. absurd (ne (none-at m i));
-      before = λ i q h ne g. absurd (ne (none-at m i));
-      short = λ i j h ne g. absurd (ne (none-at m i));
-      wide = λ i h ne. absurd (ne (none-at m i));
-      none = λ i h. none-at m i;
-    }
+count-more : (ps : List (Option Pivot)) (i : ℕ) (p : Pivot) → i < length ps → pivot_at ps i ≡ None → pivot_count (set ps i (Some p)) ≡ suc (pivot_count ps)
+unfolding pivot_count
+count-more [] i p h e = absurd (not-suc-le-zero h)
+count-more (None ∷ ps) zero p h e = refl
+count-more (Some q ∷ ps) zero p h e = let z : ⊥ = cc in absurd z
+count-more (None ∷ ps) (suc i) p h e = count-more ps i p (le_of_suc-le-suc h) e
+count-more (Some q ∷ ps) (suc i) p h e = ap suc (count-more ps i p (le_of_suc-le-suc h) e)
+
+count-within : (ps : List (Option Pivot)) (n : ℕ) → ((i : ℕ) → n ≤ i → pivot_at ps i ≡ None) → pivot_count ps ≤ n
+unfolding pivot_count
+count-within [] n f = zero-le
+count-within (None ∷ ps) zero f = count-within ps zero (λ i h. f (suc i) zero-le)
+count-within (None ∷ ps) (suc n) f = let r : pivot_count ps ≤ n = count-within ps n (λ i h. f (suc i) (suc-le-suc h)) in omega arith
+count-within (Some q ∷ ps) zero f = let e : Some q ≡ None = f zero zero-le in let z : ⊥ = cc in absurd z
+count-within (Some q ∷ ps) (suc n) f = suc-le-suc (count-within ps n (λ i h. f (suc i) (suc-le-suc h)))
+
+pub no-pivots : (n m : ℕ) (s : List ℕ) → Pivots n s (replicate m None) × (pivot_count (replicate m None) ≡ 0)
+no-pivots n m s =
+    (record { each = λ i p e. let f : pivot_at (replicate m None) i ≡ None = none-at m i in let z : ⊥ = cc in absurd z; none = λ i h. none-at m i }, count-none m)
 
 pub topped-unit : (n k : ℕ) → k < n → Topped k (set (replicate n 0) k 1)
 topped-unit n k h =
     record {
       one = get_or-set_same (replicate n 0) k 1 0 (omega (arith, length-replicate {A = ℕ} n 0));
-      above = λ j g. get_or-set_other (replicate n 0) k j 1 0 (omega arith) ∙ none-at n j;
+      above = λ j g. get_or-set_other (replicate n 0) k j 1 0 (omega arith) ∙ zero-at n j;
     }
+  where
+    zero-at : (m j : ℕ) → get_or {A = ℕ} (replicate m 0) j 0 ≡ 0
+    zero-at zero j = refl
+    zero-at (suc m) zero = refl
+    zero-at (suc m) (suc j) = zero-at m j
 
-pub pivots-more : (n i d : ℕ) (s heads : List ℕ) (vectors : List (List ℕ)) (u : List ℕ) → i < n → i < length heads → i < length vectors → length u ≡ 17 →
-    Pivots n s heads vectors → Reduced n i s heads u → d ≡ dot u (drop i s) → Pivots n s (set heads i d) (set vectors i u) × (weight (set heads i d) ≡ weight heads + 1)
-pivots-more n i d s heads vectors u h lh lv lu p r de =
-    let dn : d ≡ 0 → ⊥ = λ e. (r.free h).1 (sym de ∙ e) in
-    let w : weight (set heads i d) ≡ suc (weight heads) = weight-set heads i d lh (r.free h).0 dn in
-    let hs : get_or (set heads i d) i 0 ≡ d = get_or-set_same heads i d 0 lh in
-    let vs : get_or (set vectors i u) i [] ≡ u = get_or-set_same vectors i u [] lv in
-    let ho : (j : ℕ) → j ≢ i → get_or (set heads i d) j 0 ≡ get_or heads j 0 = λ j ne. get_or-set_other heads i j d 0 ne in
-    let vo : (j : ℕ) → j ≢ i → get_or (set vectors i u) j [] ≡ get_or vectors j [] = λ j ne. get_or-set_other vectors i j u [] ne in (
+weaker : (k l i : ℕ) (s : List ℕ) (p : Pivot) → k ≤ l → IsPivot k i s p → IsPivot l i s p
+weaker k l i s p h is = record { nonzero = is.nonzero; here = is.here; before = is.before; short = λ j g. is.short j (omega arith); wide = is.wide }
+
+new-pivot : (n i d : ℕ) (s : List ℕ) (ps : List (Option Pivot)) (u : List ℕ) → FitsRow n i d s ps u → IsPivot (suc (pivot_count ps)) i s (record { head = d; vector = u })
+new-pivot n i d s ps u f =
+    record { nonzero = f.nonzero; here = f.here; before = f.reduced.clear; short = λ j g. f.reduced.topped.above j (omega arith); wide = f.reduced.wide }
+
+pub pivots-more : (n i d : ℕ) (s : List ℕ) (ps : List (Option Pivot)) (u : List ℕ) → i < length ps → Pivots n s ps → FitsRow n i d s ps u →
+    Pivots n s (set ps i (Some (record { head = d; vector = u }))) × (pivot_count (set ps i (Some (record { head = d; vector = u }))) ≡ pivot_count ps + 1)
+pivots-more n i d s ps u h p f =
+    let new : Pivot = record { head = d; vector = u } in
+    let k : ℕ = pivot_count ps in
+    let w : pivot_count (set ps i (Some new)) ≡ suc k = count-more ps i new h f.free in
+    let here : pivot_at (set ps i (Some new)) i ≡ Some new = get_or-set_same ps i (Some new) None h in
+    let other : (j : ℕ) → j ≢ i → pivot_at (set ps i (Some new)) j ≡ pivot_at ps j = λ j ne. get_or-set_other ps i j (Some new) None ne in (
       record {
-        here = λ j g ne.
+        each = λ j q e.
             ⊎_elim
-            (λ e. ap (λ (m : ℕ). dot (get_or (set vectors i u) m []) (drop m s)) e ∙ ap (λ (l : List ℕ). dot l (drop i s)) vs ∙ sym de ∙ sym hs ∙ ap (λ (m : ℕ). get_or (set heads i d) m 0) (sym e))
-            (λ o. ap (λ (l : List ℕ). dot l (drop j s)) (vo j o) ∙ p.here j g (λ z. ne (ho j o ∙ z)) ∙ sym (ho j o))
+            (λ same.
+            let t : pivot_at (set ps i (Some new)) i ≡ Some q = ap (λ (m : ℕ). pivot_at (set ps i (Some new)) m) (sym same) ∙ e in
+            let x : new ≡ q = cc in
+            subst (λ (m : ℕ). IsPivot m j s q) (sym w) (subst (λ (m : ℕ). IsPivot (suc k) m s q) (sym same) (subst (λ (y : Pivot). IsPivot (suc k) i s y) x (new-pivot n i d s ps u f))))
+            (λ ne. subst (λ (m : ℕ). IsPivot m j s q) (sym w) (weaker k (suc k) j s q (omega arith) (p.each j q (sym (other j ne) ∙ e))))
             (cases_eq j i);
-        before = λ j q g ne t.
-            ⊎_elim
-            (λ e. ap (λ (m : ℕ). dot (get_or (set vectors i u) m []) (drop q s)) e ∙ ap (λ (l : List ℕ). dot l (drop q s)) vs ∙ r.clear q (omega arith))
-            (λ o. ap (λ (l : List ℕ). dot l (drop q s)) (vo j o) ∙ p.before j q g (λ z. ne (ho j o ∙ z)) t)
-            (cases_eq j i);
-        short = λ j m g ne t.
-            ⊎_elim
-            (λ e. ap (λ (a : ℕ). get_or (get_or (set vectors i u) a []) m 0) e ∙ ap (λ (l : List ℕ). get_or l m 0) vs ∙ r.topped.above m (omega arith))
-            (λ o. ap (λ (l : List ℕ). get_or l m 0) (vo j o) ∙ p.short j m g (λ z. ne (ho j o ∙ z)) (omega arith))
-            (cases_eq j i);
-        wide = λ j g ne.
-            ⊎_elim
-            (λ e. ap (λ (a : ℕ). length (get_or (set vectors i u) a [])) e ∙ ap length vs ∙ lu)
-            (λ o. ap length (vo j o) ∙ p.wide j g (λ z. ne (ho j o ∙ z)))
-            (cases_eq j i);
-        none = λ j g. ho j (omega arith) ∙ p.none j g;
+        none = λ j g. let row : i < n = f.row in other j (omega arith) ∙ p.none j g;
       },
-      omega arith,
+      w ∙ omega arith,
     )
 
 -- no more pivots than rows
-pub pivots-within : (n : ℕ) (s heads : List ℕ) (vectors : List (List ℕ)) → Pivots n s heads vectors → weight heads ≤ n
-pivots-within n s heads vectors p = weight-within heads n p.none
+pub pivots-within : (n : ℕ) (s : List ℕ) (ps : List (Option Pivot)) → Pivots n s ps → pivot_count ps ≤ n
+pivots-within n s ps p = count-within ps n p.none
+
+-- no more pivots than rows, and none more where each row has one
+pub no_room : (n k : ℕ) (s : List ℕ) (ps : List (Option Pivot)) → Pivots n s ps → pivot_count ps ≡ k → n < k → ⊥
+no_room n k s ps p e h = let few : pivot_count ps ≤ n = pivots-within n s ps p in omega arith
+
+pub not_another : (n i d k : ℕ) (s : List ℕ) (ps : List (Option Pivot)) (u : List ℕ) → length ps ≡ 16 → n ≤ 16 → Pivots n s ps → pivot_count ps ≡ k → FitsRow n i d s ps u → n ≤ k → ⊥
+not_another n i d k s ps u l m p e f h =
+    let row : i < n = f.row in
+    let more = pivots-more n i d s ps u (omega arith) p f in
+    omega (arith, more.1, pivots-within n s _ more.0)

@@ -1,22 +1,15 @@
 -- One turn of the loops that compute what the definitions of decoding say. Assumes nothing.
-use Rattle.std.proofs.Common.{◌≡◌, ℕ, zero, suc, ◌+◌, ◌<◌, ◌≤◌, List, [], ◌∷◌, ◌++◌, length, get_or, take, drop, set, sym, refl, ap, ◌∙◌, ap₂, append_assoc, add_assoc, arith}
+use Rattle.std.proofs.Common.{◌≡◌, ℕ, zero, suc, ◌+◌, ◌<◌, ◌≤◌, List, [], ◌∷◌, ◌++◌, length, get_or, take, drop, fold, zip, set, sym, refl, ap, ◌∙◌, ap₂, append_assoc, arith}
 use Rattle.std.proofs.lemmas.List.{drop_more, drop_all, take_more_set, take_all, drop-set-lt, append-nil, get_or-drop}
 use Rattle.gf256.proofs.Ring.{◌⊕◌, ◌⊙◌, ⊕-assoc, ⊕-zero-r, ⊙-zero-r}
 use Rattle.rs_decoding.specs.Decoding.{dot, combine, evaluate}
 
--- a product's sum so far, plus what is left, is the whole
-pub dot-step : (sum i j : ℕ) (v s : List ℕ) (whole : ℕ) → j < length v → i + j < length s → sum ⊕ dot (drop j v) (drop (i + j) s) ≡ whole →
-    (sum ⊕ (get_or v j 0 ⊙ get_or s (i + j) 0)) ⊕ dot (drop (j + 1) v) (drop (i + (j + 1)) s) ≡ whole
+-- the sum of the products, one after the other
+pub dot-fold : (acc : ℕ) (us vs : List ℕ) → fold (λ (sum : ℕ) (p : ℕ × ℕ). sum ⊕ (p.0 ⊙ p.1)) acc (zip us vs) ≡ acc ⊕ dot us vs
 unfolding dot
-dot-step sum i j v s whole h g e =
-    ⊕-assoc sum (get_or v j 0 ⊙ get_or s (i + j) 0) (dot (drop (j + 1) v) (drop (i + (j + 1)) s))
-    ∙ ap (λ (k : ℕ). sum ⊕ ((get_or v j 0 ⊙ get_or s (i + j) 0) ⊕ dot (drop (j + 1) v) (drop k s))) (sym (add_assoc i j 1))
-    ∙ sym (ap₂ (λ (a b : List ℕ). sum ⊕ dot a b) (drop_more v j 0 h) (drop_more s (i + j) 0 g))
-    ∙ e
-
-pub dot-end : (sum : ℕ) (v s : List ℕ) (j whole : ℕ) → length v ≤ j → sum ⊕ dot (drop j v) s ≡ whole → sum ≡ whole
-unfolding dot
-dot-end sum v s j whole h e = sym (ap (λ (a : List ℕ). sum ⊕ dot a s) (drop_all j v h) ∙ ⊕-zero-r sum) ∙ e
+dot-fold acc [] vs = sym (⊕-zero-r acc)
+dot-fold acc (u ∷ us) [] = sym (⊕-zero-r acc)
+dot-fold acc (u ∷ us) (v ∷ vs) = dot-fold (acc ⊕ (u ⊙ v)) us vs ∙ ⊕-assoc acc (u ⊙ v) (dot us vs)
 
 -- what is done, followed by what the definition makes of the rest, is the whole
 pub combine-step : (c j y : ℕ) (u v whole : List ℕ) → j < length u → j < length v → y ≡ get_or u j 0 ⊕ (c ⊙ get_or v j 0) →

@@ -1,11 +1,12 @@
 // The field's arithmetic as the decoder uses it.
-ghost use Rattle.std.specs.Prelude.{◌≡◌};
-ghost use Rattle.gf256.specs.Field.{inverse};
-ghost use Rattle.gf256.proofs.Ring.{◌⊕◌, ◌⊙◌};
+ghost use Rattle.std.specs.Prelude.{◌≡◌, ◌<◌, slice_index};
+ghost use Rattle.gf256.specs.Field.{inverse, ◌⊕◌, ◌⊙◌};
+ghost use Rattle.rs_theory.specs.Code.{locators};
 
-use gf256::mul;
+use gf256::{mul, power_of_two};
 
 // a + b * c
+#[tactic(auto, using(crate::proofs::Products::add_product))]
 pub fn multiply_add(a: u8, b: u8, c: u8) -> u8
     ensures { result ≡ a ⊕ (b ⊙ c) }
 {
@@ -13,6 +14,7 @@ pub fn multiply_add(a: u8, b: u8, c: u8) -> u8
 }
 
 // a * (b + c)
+#[tactic(auto, using(crate::proofs::Products::product_sum))]
 pub fn multiply_sum(a: u8, b: u8, c: u8) -> u8
     ensures { result ≡ a ⊙ (b ⊕ c) }
 {
@@ -20,6 +22,7 @@ pub fn multiply_sum(a: u8, b: u8, c: u8) -> u8
 }
 
 // a / d, and 0 where d is 0
+#[tactic(auto, using(crate::proofs::Products::quotient_zero))]
 pub fn quotient(a: u8, d: u8) -> u8
     ensures { result ≡ a ⊙ inverse d }
 {
@@ -27,4 +30,13 @@ pub fn quotient(a: u8, d: u8) -> u8
         Some(i) => mul(a, i),
         None => 0,
     }
+}
+
+// The locator of place p in a word.
+#[tactic(auto, using(crate::proofs::Products::locator_at))]
+pub fn locator(p: usize) -> u8
+    requires { p < 255 }
+    ensures { result ≡ slice_index (locators 255) p }
+{
+    power_of_two(254 - p)
 }

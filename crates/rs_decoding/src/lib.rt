@@ -3,4 +3,5 @@
 
 mod arithmetic;
 pub mod errors;
+pub mod polynomial;
 pub mod search;

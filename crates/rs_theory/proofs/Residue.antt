@@ -1,7 +1,7 @@
 -- The residue of a word: what its last 32 bytes differ by from those that the encoder would give. It has the word's syndromes. Assumes nothing.
 use Rattle.std.proofs.Common.{◌≡◌, ℕ, zero, suc, ◌+◌, ◌<◌, T, ltb, List, [], ◌∷◌, ◌++◌, length, get_or, take, drop, sym, refl, ap, ◌∙◌, subst, ap₂, arith, lt→ltb, take-append-drop}
 use lib.Bits.{bit_xor}
-use Rattle.std.proofs.lemmas.List.{length-drop, append_cancel_left, get_or-take, get_or-drop}
+use Rattle.std.proofs.lemmas.List.{length-drop, append_cancel_left, get_or-drop}
 use Rattle.bits.specs.Lists.{under, are_bytes, zeros}
 use Rattle.gf256.specs.Field.{product, power}
 use Rattle.gf256.proofs.Basis.{both}
@@ -125,19 +125,19 @@ bytes-all [] h = tt
 bytes-all (x ∷ w) h = both (ltb x 256) (under 256 w) (lt→ltb x 256 (h 0)) (bytes-all w (λ i. h (suc i)))
 
 pub residue-places : (w register out : List ℕ) → length w ≡ 255 → ((i : ℕ) → get_or w i 0 < 256) →
-    take 32 register ≡ remainder (generator 32) (take 223 w) (zeros 32) →
+    register ≡ remainder (generator 32) (take 223 w) (zeros 32) →
     ((k : ℕ) → k < 32 → get_or out k 0 ≡ bit_xor (get_or register k 0) (get_or w (223 + k) 0)) → length out ≡ 32 → IsResidue w out
 unfolding residue parity
 residue-places w register out h b r e n =
     let m = take 223 w in
-    let p : take 32 register ≡ parity m = r ∙ ap (λ (g : List ℕ). remainder g m (zeros 32)) generator-is in
+    let p : register ≡ parity m = r ∙ ap (λ (g : List ℕ). remainder g m (zeros 32)) generator-is in
     let long : length (parity m) ≡ 32 = parity-length m in
     let same : out ≡ residue w =
     same-places out (residue w) (n ∙ sym (residue-length w h))
     (λ k l.
     e k (omega arith) ∙
     ap₂ bit_xor
-    (sym (get_or-take 32 register k 0 (omega arith)) ∙ ap (λ (a : List ℕ). get_or a k 0) p)
+    (ap (λ (a : List ℕ). get_or a k 0) p)
     (sym (get_or-drop 223 w k 0)) ∙
     sym (plus-place (parity m) (drop 223 w) k (omega arith) (long ∙ sym (drop-length w h)))) in
     subst (IsResidue w) (sym same) (is-residue w h (bytes-all w b))

@@ -12,11 +12,7 @@ use Rattle.gf256.proofs.Ring.{◌⊕◌, ◌⊙◌, pow, ring, xor_is, product_i
 use Rattle.rs_theory.specs.Code.{value_from, vanishes}
 use Rattle.rs_theory.proofs.Sum.{sum, weight, plus}
 use Rattle.rs_theory.proofs.Distance.{Unlike, Locators, head_byte, tail-bytes, head-zero, tail-zeros}
-
--- 2^(n-1) .. 2^0: the locators of the places of a word of n bytes, highest coefficient first
-unfoldable pub locators : ℕ → List ℕ
-locators zero = []
-locators (suc n) = power 2 n ∷ locators n
+unfoldable pub use Rattle.rs_theory.specs.Code.{locators}
 
 pub length-locators : (n : ℕ) → length (locators n) ≡ n
 unfolding locators

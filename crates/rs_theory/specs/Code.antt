@@ -59,3 +59,8 @@ Far w = (c : List ℕ) → T (is_codeword c) → 16 < distance c w
 unfoldable pub weight : List ℕ → ℕ
 weight [] = 0
 weight (e ∷ es) = differ e 0 + weight es
+
+-- ---- 2^(n-1) .. 2^0: the locators of the places of a word of n bytes, highest coefficient first
+unfoldable pub locators : ℕ → List ℕ
+locators zero = []
+locators (suc n) = power 2 n ∷ locators n

@@ -1,13 +1,6 @@
--- The tables give the inverse. Assumes nothing.
-use Rattle.bits.specs.Lists.{zeros}
-use Rattle.gf256.proofs.Table.{cycle, logs}
-use Rattle.gf256.proofs.Rules.{exps, log-below, inverse-read}
+-- The power of what is left to 255 is the inverse. Assumes nothing.
+use Rattle.gf256.proofs.Rules.{inverse_by_log}
 use Rattle.gf256.proofs.inverse.Goals as goal
 
-pub overflow_sub-result : goal.overflow_sub-result
-unfolding logs
-overflow_sub-result c = log-below c.args.a c.ranges.a.fits c.if-a-eq0.false
-
 pub returns : goal.returns
-unfolding exps logs cycle zeros
-returns c = inverse-read c.args.a c.ranges.a.fits c.if-a-eq0.false
+returns c = inverse_by_log c.args.a c.in_ok-k.k c.power_of_two.result c.ranges.a.fits c.in_ok-k.ensures c.power_of_two.ensures

@@ -1,24 +1,25 @@
-use Rattle.std.proofs.Common.{◌≡◌, ℕ, ◌+◌, ◌<◌, ◌≤◌, List, length, drop, sym, subst, arith}
+use Rattle.std.proofs.Common.{◌≡◌, ℕ, true, false, eqb, cond, ◌+◌, List, [], ◌∷◌, length, zip, not, nat_eq, refl, rules, ◌∙◌, arith}
+use Rattle.std.specs.List.{filter}
+use Rattle.std.proofs.lemmas.Iterator.{YieldsList-from_zip, YieldsList-from_slice}
+use Rattle.std.proofs.lemmas.Iterator.Consumers.{count_from_yields_List, YieldsList-from_filter}
 use Rattle.bits.specs.Distance.{distance}
-use Rattle.rs_decoding.proofs.ErrorSteps.{distance-hit, distance-miss, distance-end}
 use Rattle.reed_solomon.proofs.decoder.differences.Goals as goal
-use Rattle.reed_solomon.proofs.decoder.differences.Goals.{then-a-i, else-a-i}
 
-pub loop-i-preserved : goal.loop-i-preserved
-loop-i-preserved c =
-    let a : List ℕ = c.args.a.now in
-    let b : List ℕ = c.args.b.now in
-    let i : ℕ = c.loop-i.i in
-    let h : i < length a = omega arith in
-    let g : i < length b = omega arith in
-    let P : ℕ → Type 0 = λ n. (n ≤ i + 1) × (n + distance (drop (i + 1) a) (drop (i + 1) b) ≡ distance a b) in
-    elim c.if-a-i.branch [
-      | then-a-i w ↦ subst P (sym w.count-is) (omega arith, distance-hit i c.loop-i.count _ a b h g w.if-a-i.true c.loop-i.invariant.1)
-      | else-a-i w ↦ subst P (sym w.count-is) (omega arith, distance-miss i c.loop-i.count _ a b h g w.if-a-i.false c.loop-i.invariant.1)
-    ]
+-- as many pairs of entries that are not equal as the distance says
+pairs : (a b : List ℕ) → length a ≡ length b → length (filter (λ (p : ℕ × ℕ). not (eqb p.0 p.1)) (zip a b)) ≡ distance a b
+unfolding distance
+pairs [] [] h = refl
+pairs [] (y ∷ b) h = let z : ⊥ = omega arith in absurd z
+pairs (x ∷ a) [] h = let z : ⊥ = omega arith in absurd z
+pairs (x ∷ a) (y ∷ b) h =
+    let e : length (filter (λ (p : ℕ × ℕ). not (eqb p.0 p.1)) (zip a b)) ≡ distance a b = pairs a b (omega arith) in
+    elim (eqb x y) as (λ t. length (cond (not t) ((x, y) ∷ filter (λ (p : ℕ × ℕ). not (eqb p.0 p.1)) (zip a b)) (filter (λ (p : ℕ × ℕ). not (eqb p.0 p.1)) (zip a b))) ≡ cond t 0 1 + distance a b)
+    [ true ↦ omega (arith, e) | false ↦ omega (arith, e) ]
 
 pub returns : goal.returns
 returns c =
-    let h : length c.args.a.now ≤ c.loop-i.i = omega arith in
-    let g : length c.args.b.now ≤ c.loop-i.i = omega arith in
-    distance-end c.loop-i.i c.loop-i.count _ c.args.a.now c.args.b.now h g c.loop-i.invariant.1
+    let e : c.count.result ≡ length (filter (λ (p : ℕ × ℕ). not (nat_eq p.0 p.1)) (zip c.args.a.now c.args.b.now)) =
+    count_from_yields_List c.filter.result c.count.result c.count.ensures.ran
+    (YieldsList-from_filter _ (λ (p : ℕ × ℕ). not (nat_eq p.0 p.1)) (YieldsList-from_zip (YieldsList-from_slice c.args.a.now (cc)) (YieldsList-from_slice c.args.b.now (cc))) c.filter.ensures.closure
+    (λ x b q k. search rules)) in
+    e ∙ pairs c.args.a.now c.args.b.now (omega arith)

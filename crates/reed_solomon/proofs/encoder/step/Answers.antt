@@ -1,24 +1,13 @@
--- Each turn of the loop sets one place of the register, and the last place stays. Assumes nothing.
-use Rattle.std.proofs.Common.{get_or, refl, ◌∙◌, arith, length-set}
-use lib.Bits.{xor_lt}
-use Rattle.std.proofs.lemmas.List.{drop-set-lt}
-use Rattle.rs_theory.proofs.Register.{step-turn, step-ends}
+-- The register without its first place, and the multiple of the generator. Assumes nothing.
+use Rattle.std.proofs.Common.{◌≡◌, ℕ, List, take, drop, get_or, ap, ◌∙◌, arith, length-drop}
+use lib.Bits.{bit_xor}
+use Rattle.std.proofs.lemmas.List.{take_all}
+use Rattle.rs_theory.proofs.Register.{step-is}
 use Rattle.reed_solomon.proofs.encoder.step.Goals as goal
 
-pub high_row-high-requires : goal.high_row-high-requires
-high_row-high-requires c = omega (arith, xor_lt 8 c.args.m (get_or c.args.register.now 0 0) c.ranges.m.fits (c.fits-register 0))
-
-pub loop-i-init : goal.loop-i-init
-loop-i-init c = (refl, refl, c.told-register)
-
-pub loop-i-preserved : goal.loop-i-preserved
-loop-i-preserved c = (
-  step-turn _ c.loop-i.i c.low_row-low.result.now c.high_row-high.result.now c.loop-i.register _
-      (xor_lt 8 c.args.m (get_or c.args.register.now 0 0) c.ranges.m.fits (c.fits-register 0)) c.loop-i-test.true
-      c.low_row-low.ensures c.high_row-high.ensures c.loop-i.invariant.2 c.loop-i.invariant.0,
-  drop-set-lt 32 c.loop-i.register c.loop-i.i _ c.loop-i-test.true ∙ c.loop-i.invariant.1,
-  length-set c.loop-i.register c.loop-i.i _ ∙ c.loop-i.invariant.2,
-)
-
 pub returns : goal.returns
-returns c = step-ends _ c.loop-i.i c.loop-i.register _ _ (omega arith) c.loop-i.invariant.0 c.loop-i.invariant.1
+returns c =
+    let rs : List ℕ = drop 1 c.args.register.now in
+    let all : take 31 rs ≡ rs = take_all 31 rs (omega (arith, length-drop 1 c.args.register.now)) in
+    step-is _ c.multiple-next.result rs c.add.new.sum c.multiple-next.ensures c.add.array_long
+    (λ k h. c.add.ensures k ∙ ap (λ (l : List ℕ). bit_xor (get_or c.multiple-next.result k 0) (get_or l k 0)) all)

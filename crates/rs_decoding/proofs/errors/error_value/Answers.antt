@@ -14,21 +14,18 @@ loop-k-preserved c =
     let h : k < length ys = c.loop-k-test.true in
     let P : List ℕ → ℕ → Type 0 =
     λ t d.
-    (length t ≡ 32)
-    × (peel_others x (drop (k + 1) ys) t ≡ peel_others x ys c.args.s.now)
+    (peel_others x (drop (k + 1) ys) t ≡ peel_others x ys c.args.s.now)
     × (others x (drop (k + 1) ys) x d ≡ others x ys x x) in
     elim c.if-y-x.branch [
       | then-y-x w ↦
           subst₂ P (sym w.t-is) (sym w.divisor-is) (
-            w.peel_off.array_long,
-            peel-others-step x k ys c.loop-k.t w.peel_off.new.t _ h w.if-y-x.true w.peel_off.ensures c.loop-k.invariant.1,
-            others-step x k x c.loop-k.divisor w.multiply_sum-divisor.result _ ys h w.if-y-x.true w.multiply_sum-divisor.ensures c.loop-k.invariant.2,
+            peel-others-step x k ys c.loop-k.t w.peel_off.new.t _ h w.if-y-x.true w.peel_off.ensures c.loop-k.invariant.0,
+            others-step x k x c.loop-k.divisor w.multiply_sum-divisor.result _ ys h w.if-y-x.true w.multiply_sum-divisor.ensures c.loop-k.invariant.1,
           )
       | else-y-x w ↦
           subst₂ P (sym w.t-is) (sym w.divisor-is) (
-            c.loop-k.invariant.0,
-            peel-others-skip x k ys c.loop-k.t _ h w.if-y-x.false c.loop-k.invariant.1,
-            others-skip x k x c.loop-k.divisor _ ys h w.if-y-x.false c.loop-k.invariant.2,
+            peel-others-skip x k ys c.loop-k.t _ h w.if-y-x.false c.loop-k.invariant.0,
+            others-skip x k x c.loop-k.divisor _ ys h w.if-y-x.false c.loop-k.invariant.1,
           )
     ]
 
@@ -40,4 +37,4 @@ returns c =
     let k : ℕ = c.loop-k.k in
     let h : length ys ≤ k = c.loop-k-test.false in
     c.quotient.ensures
-    ∙ ap₂ (λ (t : List ℕ) (d : ℕ). get_or t 0 0 ⊙ inverse d) (peel-others-end x k ys c.loop-k.t _ h c.loop-k.invariant.1) (others-end x k x c.loop-k.divisor _ ys h c.loop-k.invariant.2)
+    ∙ ap₂ (λ (t : List ℕ) (d : ℕ). get_or t 0 0 ⊙ inverse d) (peel-others-end x k ys c.loop-k.t _ h c.loop-k.invariant.0) (others-end x k x c.loop-k.divisor _ ys h c.loop-k.invariant.1)

@@ -1,9 +1,8 @@
-use Rattle.std.proofs.Common.{◌≡◌, length, drop}
+use Rattle.std.proofs.Common.{◌≡◌, drop}
 use Rattle.rs_decoding.specs.Decoding.{peel_others, others}
 use Rattle.rs_decoding.proofs.errors.error_value.Given as goal
 
 abbrev pub invariant-loop-k : goal.invariant-loop-k
 invariant-loop-k l =
-    (length l.t ≡ 32)
-    × (peel_others l.x (drop l.k l.roots) l.t ≡ peel_others l.x l.roots l.s)
+    (peel_others l.x (drop l.k l.roots) l.t ≡ peel_others l.x l.roots l.s)
     × (others l.x (drop l.k l.roots) l.x l.divisor ≡ others l.x l.roots l.x l.x)

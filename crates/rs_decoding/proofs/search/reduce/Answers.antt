@@ -1,24 +1,43 @@
-use Rattle.std.proofs.Common.{◌≡◌, ℕ, ◌+◌, List, [], length, get_or, sym, refl, ◌∙◌, subst}
-use Rattle.rs_decoding.proofs.Reduce.{Clear, clear-more, clear-by}
+use Rattle.std.proofs.Common.{◌≡◌, ℕ, ◌+◌, ◌<◌, List, None, sym, ◌∙◌, subst, arith}
+use Rattle.std.proofs.lemmas.List.{get_or-take, length-take-le}
+use Rattle.rs_decoding.specs.Search.{Reduced, pivot_count}
+use Rattle.rs_decoding.proofs.Bytes.{bytes-all}
+use Rattle.rs_decoding.proofs.Reduce.{reduced-more, reduced-by}
 use Rattle.rs_decoding.proofs.search.reduce.Goals as goal
-use Rattle.rs_decoding.proofs.search.reduce.Goals.{then-d-ne0+else-heads-i-eq0, else-d-ne0}
+use Rattle.rs_decoding.proofs.search.reduce.Goals.{then-d-ne0+in-Some, else-d-ne0}
+
+pub loop-i-init : goal.loop-i-init
+loop-i-init c =
+    record { topped = c.requires.topped; clear = λ q h. absurd (omega arith); wide = c.told-vector; bytes = bytes-all c.args.vector.now (λ i h. c.fits-vector i) }
 
 pub loop-i-preserved : goal.loop-i-preserved
 loop-i-preserved c =
     let i : ℕ = c.loop-i.i in
     let s : List ℕ = c.args.s.now in
-    let heads : List ℕ = c.args.heads.now in
-    let P : List ℕ → Type 0 = λ u. (length u ≡ 17) × Clear (i + 1) s heads u in
+    let k : ℕ = pivot_count c.args.pivots.now in
+    let row : i < c.args.rows = omega (arith, length-take-le c.args.rows c.args.pivots.now (omega arith)) in
+    let P : List ℕ → Type 0 = λ u. Reduced (i + 1) k s u in
     elim c.if-d-ne0.branch [
-      | then-d-ne0+else-heads-i-eq0 w ↦
-          let v : List ℕ = get_or c.args.vectors.now i [] in
-          let lv : length v ≡ 17 = c.requires.pivots.wide i c.loop-i-test.true w.if-heads-i-eq0.false in
-          subst P (sym w.vector-is) (
-            w.add_multiple.array_long,
-            clear-by c.args.rows i s heads c.args.vectors.now c.loop-i.vector v w.add_multiple.new.vector c.dot_product-d.result w.quotient.result
-                c.loop-i-test.true c.requires.pivots refl (c.loop-i.invariant.0 ∙ sym lv) w.if-heads-i-eq0.false (c.fits-heads i) c.dot_product-d.type_inv
-                c.dot_product-d.ensures w.quotient.ensures w.add_multiple.ensures c.loop-i.invariant.1,
-          )
-      | else-d-ne0 w ↦
-          subst P (sym w.vector-is) (c.loop-i.invariant.0, clear-more i s heads c.loop-i.vector c.loop-i.invariant.1 (sym c.dot_product-d.ensures ∙ w.if-d-ne0.false))
+      | then-d-ne0+in-Some w ↦
+          let here = sym (get_or-take c.args.rows c.args.pivots.now i None row) ∙ w.in-Some.is in
+          subst P (sym w.vector-is)
+          (reduced-by i k s c.loop-i.vector w.add_multiple.new.vector w.in-Some.p c.dot_product-d.result w.quotient.result (c.requires.pivots.each i w.in-Some.p here)
+          c.dot_product-d.ensures w.quotient.ensures w.add_multiple.ensures c.loop-i.invariant)
+      | else-d-ne0 w ↦ subst P (sym w.vector-is) (reduced-more i k s c.loop-i.vector c.loop-i.invariant (sym c.dot_product-d.ensures ∙ w.if-d-ne0.false))
     ]
+
+pub returns-in-None : goal.returns-in-None
+returns-in-None c =
+    let row : c.loop-i.i < c.args.rows = omega (arith, length-take-le c.args.rows c.args.pivots.now (omega arith)) in
+    record {
+      row = row;
+      free = sym (get_or-take c.args.rows c.args.pivots.now c.loop-i.i None row) ∙ c.in-None.is;
+      here = sym c.dot_product-d.ensures;
+      nonzero = c.if-d-ne0.true;
+      reduced = c.loop-i.invariant;
+    }
+
+pub returns : goal.returns
+returns c =
+    let end : c.loop-i.i ≡ c.args.rows = omega (arith, length-take-le c.args.rows c.args.pivots.now (omega arith)) in
+    subst (λ (n : ℕ). Reduced n (pivot_count c.args.pivots.now) c.args.s.now c.loop-i.vector) end c.loop-i.invariant
