@@ -11,10 +11,6 @@ pub and_second : (a b : Bool) → T (a && b) → T b
 and_second true b t = t
 and_second false b t = absurd t
 
-pub and_both : (a b : Bool) → T a → T b → T (a && b)
-and_both true b s t = t
-and_both false b s t = s
-
 -- a bit is 0 or 1
 pub zero-or-one : (b : ℕ) → b < 2 → (b ≡ 0) ⊎ (b ≡ 1)
 zero-or-one b h = grind arith

@@ -1,6 +1,5 @@
 -- The search by numbers is the search: costs and decisions column by column, the bound on costs, and how decisions are read back. Assumes nothing.
-use Rattle.std.proofs.Common.{◌≡◌, ℕ, zero, suc, ◌+◌, ◌*◌, ◌/◌, ◌%◌, ◌<◌, ◌≤◌, max, Bool, true, false, cond, T, eqb, leb, List, [], ◌∷◌, ◌++◌, map, reverse, length, get_or, take, sym, refl, ap, ◌∙◌, subst, arith}
-use lib.Dec.{eqb-suc-zero}
+use Rattle.std.proofs.Common.{◌≡◌, ℕ, zero, suc, ◌+◌, ◌*◌, ◌/◌, ◌%◌, ◌<◌, ◌≤◌, max, Bool, true, false, cond, T, leb, List, [], ◌∷◌, ◌++◌, map, reverse, length, get_or, take, replicate, sym, refl, ap, ◌∙◌, subst, arith}
 use Rattle.std.proofs.lemmas.List.FromFn.{length-map-range_with_len, fill_by_all, get_or-map-range_with_len}
 use Rattle.std.proofs.lemmas.List.{get_or-map, length-map, take_more, take_all, append_assoc, reverse-append, get_or-replicate, length-take-le, length-append, ext_get_or, get_or_append_left}
 use Rattle.std.proofs.lemmas.Bool.{cond_both}
@@ -113,17 +112,14 @@ unfolding costs_after
 length-costs cs i = length-map (after cs i) cost_in ∙ length-after cs i
 
 -- ---- the start and the end
-first-costs : (far : ℕ) (k : ℕ) → k < 64 → get_or (map cost_in (begin deep far)) k 0 ≡ cond (eqb k 0) 0 far
-unfolding begin
-first-costs far zero h = refl
-first-costs far (suc k) h =
-    cost-at (begin deep far) (suc k) (length-begin far) h ∙ ap cost_in (get_or-replicate 63 k (start far) (start 0) (omega arith)) ∙
-    sym (ap (λ (t : Bool). cond t 0 far) (eqb-suc-zero k))
+map-replicate : {A : Type 0} (f : A → ℕ) (n : ℕ) (x : A) → map f (replicate n x) ≡ replicate n (f x)
+map-replicate f zero x = refl
+map-replicate f (suc n) x = ap (λ (u : List ℕ). f x ∷ u) (map-replicate f n x)
 
 -- costs at the start: 0 in state 0, and more than everything in the others
-pub costs-first : (cs : List Cost) (k : ℕ) → k < 64 → get_or (costs_after cs 0) k 0 ≡ cond (eqb k 0) 0 (1 + total cs)
-unfolding costs_after after ways
-costs-first cs k h = first-costs (1 + total cs) k h
+pub costs-first : (cs : List Cost) → costs_after cs 0 ≡ 0 ∷ replicate 63 (1 + total cs)
+unfolding costs_after after ways begin
+costs-first cs = ap (λ (u : List ℕ). 0 ∷ u) (map-replicate cost_in 63 (start (1 + total cs)))
 
 pub after-all : (cs : List Cost) (m : ℕ) → length cs ≡ 2 * m → after cs m ≡ survivors deep cs
 unfolding after survivors

@@ -1,6 +1,8 @@
 -- Hard bits: costs are Hamming distance, so the nearest is found, and four wrong bits don't matter. Assumes nothing.
-use Rattle.std.proofs.Common.{◌≡◌, ℕ, zero, suc, ◌+◌, ◌*◌, ◌<◌, ◌≤◌, T, ◌⊎◌, List, [], ◌∷◌, ◌++◌, map, length, sym, refl, ◌∙◌, inl, inr, arith}
-use Rattle.std.proofs.lemmas.Bool.{cases_eq}
+use Rattle.std.proofs.Common.{◌≡◌, ℕ, zero, suc, ◌+◌, ◌*◌, ◌<◌, ◌≤◌, Bool, true, false, T, ◌⊎◌, List, [], ◌∷◌, ◌++◌, map, length, sym, refl, ◌∙◌, inl, inr, arith}
+use Rattle.std.specs.Bool.{Decides}
+use Rattle.std.specs.Str.{bytes_eq}
+use Rattle.std.proofs.lemmas.Slice.Eq.{bytes_eq-Decides}
 use Rattle.std.proofs.lemmas.Bool.Decides.{nat_tests}
 use Rattle.std.proofs.lemmas.List.{length-map, length-append}
 use Rattle.bits.specs.Lists.{are_bits, zeros}
@@ -42,14 +44,11 @@ hard-costs (x ∷ xs) (y ∷ r) e t u =
     omega (arith, i, d)
 
 same_or_not : (xs ys : List ℕ) → (xs ≡ ys) ⊎ (xs ≡ ys → ⊥)
-same_or_not [] [] = inl refl
-same_or_not [] (y ∷ ys) = inr (λ e. let z : ◌≡◌ {A = ℕ} 0 1 = cc in omega arith)
-same_or_not (x ∷ xs) [] = inr (λ e. let z : ◌≡◌ {A = ℕ} 0 1 = cc in omega arith)
-same_or_not (x ∷ xs) (y ∷ ys) =
-    elim (cases_eq x y) [
-      | inl e ↦ elim (same_or_not xs ys) [ inl f ↦ inl (cc) | inr f ↦ inr (λ g. f (cc)) ]
-      | inr e ↦ inr (λ g. e (cc))
-    ]
+same_or_not xs ys = by (bytes_eq xs ys) (bytes_eq-Decides xs ys)
+  where
+    by : (b : Bool) → Decides b (xs ≡ ys) → (xs ≡ ys) ⊎ (xs ≡ ys → ⊥)
+    by true d = inl (d.0 refl)
+    by false d = inr (λ e. grind (arith, d.1 e))
 
 pub length-sent : (n : ℕ) (bs : List ℕ) → length bs ≡ n → length (sent bs) ≡ 2 * (n + 6)
 length-sent n bs e =

@@ -6,7 +6,7 @@ ghost use Rattle.conv_theory.specs.Statements.{Optimal, AnyFar, FreeDistance, Ne
 
 // What it costs to take a coded bit for 0, and to take it for 1. A hard bit x is (x, 1 - x); a bit that was never sent is (0, 0).
 #[repr(C)]
-#[derive(Clone, Copy, PartialEq, Debug)]
+#[derive(Clone, Copy, PartialEq, Eq, Debug)]
 pub struct Cost {
     pub zero: u8,
     pub one: u8,

@@ -1,14 +1,16 @@
 -- Butterflies: what goes out from states 2 j and 2 j + 1, by a table that is tested against the masks; and a column that is filled two places at a time. Assumes nothing.
-use Rattle.std.proofs.Common.{◌≡◌, ℕ, ◌+◌, ◌-◌, ◌*◌, ◌/◌, ◌%◌, ◌<◌, ◌≤◌, Bool, cond, ◌&&◌, T, eqb, leb, ◌≢◌, ◌⊎◌, List, [], ◌∷◌, map, length, get_or, set, sym, ap, ◌∙◌, subst, inl, inr, arith, eqb→eq, leb→le}
+use Rattle.std.proofs.Common.{◌≡◌, ℕ, ◌+◌, ◌-◌, ◌*◌, ◌/◌, ◌%◌, ◌<◌, ◌≤◌, Bool, cond, ◌&&◌, T, eqb, leb, ◌≢◌, ◌⊎◌, List, [], ◌∷◌, map, length, get_or, set, below_more, sym, ap, ◌∙◌, subst, inl, inr, arith, eqb→eq, leb→le}
 use Rattle.std.specs.List.{range_with_len}
+use Rattle.std.specs.Simd.{first_chunks}
 use Rattle.std.proofs.lemmas.List.FromFn.{fill_by_all}
-use Rattle.std.proofs.lemmas.List.{length-set, get_or-set_same, get_or-set_other}
+use Rattle.std.proofs.lemmas.List.{map-set, length-set, get_or-set_same, get_or-set_other}
 use Rattle.conv_theory.specs.declared.Cost.{Cost}
 use Rattle.conv_theory.specs.Code.{deep, parity, first_out, second_out}
 use Rattle.conv_theory.specs.Search.{cost_of, branch}
 use Rattle.conv_theory.specs.Columns.{lower, higher, cheaper, choice}
 use Rattle.bits.proofs.Tests.{every_below, every_below-at}
 use Rattle.conv_theory.proofs.Basics.{and_first, and_second}
+use Rattle.convolutional.proofs.Pairs.{pair-at}
 
 abbrev pub firsts : List ℕ
 firsts = 0 ∷ 0 ∷ 0 ∷ 0 ∷ 1 ∷ 1 ∷ 1 ∷ 1 ∷ 1 ∷ 1 ∷ 1 ∷ 1 ∷ 0 ∷ 0 ∷ 0 ∷ 0 ∷ 1 ∷ 1 ∷ 1 ∷ 1 ∷ 0 ∷ 0 ∷ 0 ∷ 0 ∷ 0 ∷ 0 ∷ 0 ∷ 0 ∷ 1 ∷ 1 ∷ 1 ∷ 1 ∷ []
@@ -131,32 +133,45 @@ pub record Filled (f : ℕ → ℕ) (xs : List ℕ) (j : ℕ) : Type 0 where
 pub filled_none : (f : ℕ → ℕ) (xs : List ℕ) → length xs ≡ 64 → Filled f xs 0
 filled_none f xs l = record { long = l; front = λ k h. (let z : ⊥ = omega arith in absurd z); rear = λ k h. (let z : ⊥ = omega arith in absurd z) }
 
-last-or-before : (k j : ℕ) → k < j + 1 → (k ≡ j) ⊎ (k < j)
-last-or-before k j h = grind arith
-
 pub filled_more : (f : ℕ → ℕ) (xs : List ℕ) (j v w : ℕ) → j < 32 → Filled f xs j → v ≡ f j → w ≡ f (j + 32) → Filled f (set (set xs j v) (j + 32) w) (j + 1)
 filled_more f xs j v w h d ev ew =
     let l = d.long in
     let m : length (set xs j v) ≡ 64 = length-set xs j v ∙ l in
     let far : j ≢ j + 32 = omega arith in
+    let ys = set (set xs j v) (j + 32) w in
     record {
       long = length-set (set xs j v) (j + 32) w ∙ m;
-      front = λ k hk.
+      front =
+          below_more (λ k. get_or ys k 0 ≡ f k) j
+          (λ k b.
           let ne : k ≢ j + 32 = omega arith in
-          get_or-set_other (set xs j v) (j + 32) k w 0 ne ∙
-          elim (last-or-before k j hk) [
-            | inl e ↦ subst (λ (i : ℕ). get_or (set xs j v) i 0 ≡ f i) (sym e) (get_or-set_same xs j v 0 (omega arith) ∙ ev)
-            | inr b ↦ let ne' : k ≢ j = omega arith in get_or-set_other xs j k v 0 ne' ∙ d.front k b
-          ];
-      rear = λ k hk.
-          elim (last-or-before k j hk) [
-            | inl e ↦ subst (λ (i : ℕ). get_or (set (set xs j v) (j + 32) w) (i + 32) 0 ≡ f (i + 32)) (sym e) (get_or-set_same (set xs j v) (j + 32) w 0 (omega arith) ∙ ew)
-            | inr b ↦
-                let ne : k + 32 ≢ j + 32 = omega arith in
-                let ne' : k + 32 ≢ j = omega arith in
-                get_or-set_other (set xs j v) (j + 32) (k + 32) w 0 ne ∙ get_or-set_other xs j (k + 32) v 0 ne' ∙ d.rear k b
-          ];
+          let ne' : k ≢ j = omega arith in
+          get_or-set_other (set xs j v) (j + 32) k w 0 ne ∙ get_or-set_other xs j k v 0 ne' ∙ d.front k b)
+          (get_or-set_other (set xs j v) (j + 32) j w 0 far ∙ get_or-set_same xs j v 0 (omega arith) ∙ ev);
+      rear =
+          below_more (λ k. get_or ys (k + 32) 0 ≡ f (k + 32)) j
+          (λ k b.
+          let ne : k + 32 ≢ j + 32 = omega arith in
+          let ne' : k + 32 ≢ j = omega arith in
+          get_or-set_other (set xs j v) (j + 32) (k + 32) w 0 ne ∙ get_or-set_other xs j (k + 32) v 0 ne' ∙ d.rear k b)
+          (get_or-set_same (set xs j v) (j + 32) w 0 (omega arith) ∙ ew);
     }
+
+-- the same, where the list is what numbers the values of another are
+pub filled_both : {A : Type 0} (number : A → ℕ) (f : ℕ → ℕ) (xs : List A) (j : ℕ) (a b : A) → j < 32 → Filled f (map number xs) j → number a ≡ f j → number b ≡ f (j + 32) →
+    Filled f (map number (set (set xs j a) (j + 32) b)) (j + 1)
+filled_both number f xs j a b h d ea eb =
+    let e : map number (set (set xs j a) (j + 32) b) ≡ set (set (map number xs) j (number a)) (j + 32) (number b) =
+    map-set number (set xs j a) (j + 32) b ∙ ap (λ (u : List ℕ). set u (j + 32) (number b)) (map-set number xs j a) in
+    subst (λ (u : List ℕ). Filled f u (j + 1)) (sym e) (filled_more f (map number xs) j (number a) (number b) h d ea eb)
+
+-- there is room for the cost of a branch behind value b of pair j
+pub room : {A : Type 0} (number : A → ℕ) (xs : List A) (m j b cost most : ℕ) (pairs : List (List A)) (p e : List A) (d : A) → length xs ≡ 64 → pairs ≡ first_chunks 2 m xs → length pairs ≡ length xs / 2 → m ≡ length xs / 2 →
+    j < length pairs → b < 2 → p ≡ get_or pairs j e → ((k : ℕ) → k < 64 → get_or (map number xs) k 0 + 510 ≤ most) → cost ≤ 510 → number (get_or p b d) + cost ≤ most
+room number xs m j b cost most pairs p e d l front n em h hb ep all small =
+    let r = all (2 * j + b) (omega (arith, h, n, l)) in
+    let v = pair-at number xs m j b (2 * j + b) pairs p e d 0 front (omega (arith, h, n, em)) hb (omega arith) (omega (arith, h, n, l)) ep in
+    omega (arith, r, v)
 
 front-or-rear : (k : ℕ) → (k < 32) ⊎ (32 ≤ k)
 front-or-rear k = grind arith

@@ -1,28 +1,19 @@
 -- The greatest of a list is below 2 just where each number is. Assumes nothing.
-use Rattle.std.proofs.Common.{◌≡◌, ℕ, ◌+◌, ◌<◌, ◌≤◌, max, Bool, true, false, ◌&&◌, ltb, List, length, get_or, drop, sym, refl, ap, ◌∙◌, arith}
-use Rattle.std.proofs.lemmas.List.{at_drop_more, at_drop_all}
+use Rattle.std.proofs.Common.{◌≡◌, ℕ, ◌<◌, ◌≤◌, max, Bool, false, T, ◌&&◌, ltb, List, [], ◌∷◌, fold, sym, ap, ◌∙◌, arith}
 use Rattle.std.proofs.lemmas.Bool.Decides.{nat_tests}
-use Rattle.bits.specs.Lists.{under}
+use Rattle.bits.specs.Lists.{under, are_bits}
 
-max-below : (a b : ℕ) → ltb (max a b) 2 ≡ (ltb a 2 && ltb b 2)
-max-below a b = grind (arith, nat_tests)
-
-regroup : (x y z : Bool) → ((x && y) && z) ≡ (x && (y && z))
-regroup true y z = refl
-regroup false y z = refl
-
-and-true : (x : Bool) → (x && true) ≡ x
-and-true true = refl
-and-true false = refl
-
-pub greatest-more : (xs : List ℕ) (i g m : ℕ) → i < length xs → m ≡ max g (get_or xs i 0) →
-    (ltb g 2 && under 2 (drop i xs)) ≡ under 2 xs → (ltb m 2 && under 2 (drop (i + 1) xs)) ≡ under 2 xs
+greatest-from : (g : ℕ) (xs : List ℕ) → ltb (fold (λ a x. max a x) g xs) 2 ≡ (ltb g 2 && under 2 xs)
 unfolding under
-greatest-more xs i g m h e w =
-    let rest = under 2 (drop (i + 1) xs) in
-    ap (λ (k : ℕ). ltb k 2 && rest) e ∙ ap (λ (t : Bool). t && rest) (max-below g (get_or xs i 0)) ∙ regroup (ltb g 2) (ltb (get_or xs i 0) 2) rest ∙
-    ap (λ (t : Bool). ltb g 2 && t) (sym (at_drop_more (under 2) xs i 0 h)) ∙ w
+greatest-from g [] = grind (arith, nat_tests)
+greatest-from g (x ∷ xs) = greatest-from (max g x) xs ∙ regroup (under 2 xs)
+  where
+    regroup : (t : Bool) → (ltb (max g x) 2 && t) ≡ (ltb g 2 && (ltb x 2 && t))
+    regroup t = grind (arith, nat_tests)
 
-pub greatest-all : (xs : List ℕ) (i g : ℕ) → length xs ≤ i → (ltb g 2 && under 2 (drop i xs)) ≡ under 2 xs → ltb g 2 ≡ under 2 xs
-unfolding under
-greatest-all xs i g h w = sym (and-true (ltb g 2)) ∙ ap (λ (t : Bool). ltb g 2 && t) (sym (at_drop_all (under 2) xs i h)) ∙ w
+-- by the greatest, which a chain's fold computes: all are bits, or not all
+pub greatest_of_bits : (g : ℕ) (xs : List ℕ) → g ≡ fold (λ a x. max a x) 0 xs → g < 2 → T (are_bits xs)
+greatest_of_bits g xs e h = let t : are_bits xs ≡ ltb g 2 = sym (greatest-from 0 xs) ∙ ap (λ m. ltb m 2) (sym e) in grind (arith, nat_tests)
+
+pub greatest_of_others : (g : ℕ) (xs : List ℕ) → g ≡ fold (λ a x. max a x) 0 xs → 2 ≤ g → are_bits xs ≡ false
+greatest_of_others g xs e h = let t : are_bits xs ≡ ltb g 2 = sym (greatest-from 0 xs) ∙ ap (λ m. ltb m 2) (sym e) in grind (arith, nat_tests)

@@ -1,7 +1,7 @@
 // Two bits for each bit, from the last seven, and six zeros behind.
-ghost use Rattle.std.specs.Prelude.{◌≡◌, ℕ, ◌+◌, ◌*◌, ◌<◌, true, false, T, ◌++◌, length, is_ok, Err, MatchResult, ◌≢◌, bit_and, slice_index};
+ghost use Rattle.std.specs.Prelude.{◌≡◌, ℕ, ◌+◌, ◌*◌, ◌<◌, true, false, T, length, is_ok, Err, MatchResult, ◌≢◌, bit_and};
 ghost use Rattle.bits.specs.declared.Refusal.TheVariants.{NoFrame, WrongMemory};
-ghost use Rattle.bits.specs.Lists.{are_bits, zeros};
+ghost use Rattle.bits.specs.Lists.{are_bits};
 ghost use Rattle.conv_theory.specs.Code.{parity as parity_of, sent as sent_as};
 
 use crate::lengths::{all_bits, sent_as};
@@ -28,23 +28,15 @@ fn outputs(window: u8) -> (u8, u8)
     (parity(window & FIRST), parity(window & SECOND))
 }
 
-// The bit at place i, with zeros behind the last.
-fn bit_at(bits: &[u8], i: usize) -> u8
-    requires { T (are_bits bits.now) }
-    ensures is { result ≡ slice_index (bits.now ++ zeros 6) i }
-    ensures small { result < 2 }
-{
-    if i < bits.len() { bits[i] } else { 0 }
-}
-
+// The bits, and zeros behind the last. `out` is written by index: of what `chunks_exact_mut` lends out a proof keeps only the length.
 fn spread_into(bits: &[u8], out: &mut [u8])
     requires long { length out.old ≡ 2 * (length bits.now + 6) }
     requires binary { T (are_bits bits.now) }
     ensures { out.new ≡ sent_as bits.now }
 {
     let mut state: u8 = 0;
-    for i in 0..out.len() / 2 {
-        let window = state + 64 * bit_at(bits, i);
+    for (i, bit) in bits.iter().chain(&[0; 6]).enumerate() {
+        let window = state + 64 * *bit;
         let (first, second) = outputs(window);
         out[2 * i] = first;
         out[2 * i + 1] = second;
@@ -59,12 +51,8 @@ pub fn encode(bits: &[u8], out: &mut [u8]) -> Result<(), Refusal>
     ensures binary { length out.old ≡ 2 * (length bits.now + 6) → are_bits bits.now ≡ false → result ≡ Err NoFrame }
     ensures taken { length out.old ≡ 2 * (length bits.now + 6) → T (are_bits bits.now) → is_ok result ≡ true }
 {
-    if !sent_as(bits.len(), out.len()) {
-        return Err(Refusal::WrongMemory);
-    }
-    if !all_bits(bits) {
-        return Err(Refusal::NoFrame);
-    }
+    sent_as(bits.len(), out.len())?;
+    all_bits(bits)?;
     spread_into(bits, out);
     Ok(())
 }

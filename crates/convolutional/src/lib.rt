@@ -3,9 +3,11 @@
 
 mod decoder;
 mod encoder;
+mod heard;
 mod lengths;
+mod small;
+mod sum;
 mod trellis;
-mod wide;
 
 pub use conv_theory::Cost;
 pub use decoder::{decode, decode_hard};

@@ -1,9 +1,10 @@
--- One byte further, and none left.
-use Rattle.convolutional.proofs.Greatest.{greatest-more, greatest-all}
+-- The greatest decides.
+use Rattle.std.proofs.Common.{◌≡◌, max, fold, refl, rules, arith}
+use Rattle.convolutional.proofs.Greatest.{greatest_of_bits, greatest_of_others}
 use Rattle.convolutional.proofs.lengths.all_bits.Goals as goal
 
-pub loop-b-preserved : goal.loop-b-preserved
-loop-b-preserved c = greatest-more c.args.bits.now c.loop-b.b-index c.loop-b.greatest c.max-greatest.result c.loop-b-test.true c.max-greatest.ensures c.loop-b.invariant
+pub returns-then-fold-lt2 : goal.returns-then-fold-lt2
+returns-then-fold-lt2 c = let e : c.fold.result ≡ fold (λ a x. max a x) 0 c.args.bits.now = search rules in greatest_of_bits _ _ e c.if-fold-lt2.true
 
-pub returns : goal.returns
-returns c = greatest-all c.args.bits.now c.loop-b.b-index c.loop-b.greatest c.loop-b-test.false c.loop-b.invariant
+pub returns-else-fold-lt2 : goal.returns-else-fold-lt2
+returns-else-fold-lt2 c = let e : c.fold.result ≡ fold (λ a x. max a x) 0 c.args.bits.now = search rules in (greatest_of_others _ _ e (omega (arith, c.if-fold-lt2.false)), refl)
