@@ -1,9 +1,10 @@
 -- Sixteen shifts of the register at once: the shift is additive, and so is a sum of shifts that agrees with it at the powers of two. Assumes nothing.
-use Rattle.std.proofs.Common.{◌≡◌, ℕ, zero, suc, ◌+◌, ◌-◌, ◌*◌, ◌/◌, ◌%◌, ◌^◌, ◌<◌, Bool, T, eqb, sym, refl, ap, ◌∙◌, ap₂, ⊎_elim, add-zero, arith, eqb→eq}
+use Rattle.std.proofs.Common.{◌≡◌, ℕ, zero, suc, ◌+◌, ◌-◌, ◌*◌, ◌/◌, ◌%◌, ◌^◌, ◌<◌, Bool, T, eqb, List, get_or, sym, refl, ap, ◌∙◌, ap₂, ⊎_elim, add-zero, arith, eqb→eq}
+use Rattle.std.specs.Int.{from_be_bytes, w16}
 use lib.Bits.{bit_xor, xor_assoc, xor_comm, xor_self, xor_zero_r, xor_lt, xor_mod, xor_shr, xor_block, xor_shifted}
 use Rattle.std.proofs.lemmas.Nat.{pow_pos}
 use Rattle.std.proofs.lemmas.Bool.{cases_lt, lt-ltb, le-ltb, cond-true, cond-false}
-use Rattle.bits.specs.Crc.{shifted, shifted_by, stirred}
+use Rattle.bits.specs.Crc.{shifted, shifted_by, stirred, stirred_two}
 use Rattle.bits.proofs.Tests.{every_below, every_below-at}
 
 abbrev Additive : (ℕ → ℕ) → Type 0
@@ -170,8 +171,8 @@ rise : (b : ℕ) → b < 256 → wide_by 8 b ≡ 256 * b
 unfolding rises
 rise b h = eqb→eq (wide_by 8 b) (256 * b) (every_below-at 256 rises rises-all b h)
 
-pub stirred-two : (c a b : ℕ) → c < 65536 → a < 256 → b < 256 → remainder (quotient (bit_xor c (256 * a + b))) ≡ stirred (stirred c a) b
-stirred-two c a b h k l =
+stirred_at_once : (c a b : ℕ) → c < 65536 → a < 256 → b < 256 → remainder (quotient (bit_xor c (256 * a + b))) ≡ stirred (stirred c a) b
+stirred_at_once c a b h k l =
     let u = bit_xor c (256 * a) in
     let u-below : u < 65536 = xor_lt 16 c (256 * a) h (omega arith) in
     let both : bit_xor c (256 * a + b) ≡ bit_xor u b =
@@ -184,3 +185,19 @@ stirred-two c a b h k l =
     ∙ ap (wide_by 8) (wide_by-additive 8 u b ∙ ap (λ (x : ℕ). bit_xor (wide_by 8 u) x) (rise b l))
     ∙ sym (wide_by-is 8 (bit_xor (wide_by 8 u) (256 * b)) v_below)
     ∙ ap (λ (x : ℕ). shifted_by 8 (bit_xor x (256 * b))) (sym (wide_by-is 8 u u-below))
+
+-- the sums of shifts, as the code writes them
+abbrev pub sums : ℕ → ℕ
+sums x =
+    let y = bit_xor x (x / 16) in
+    let q = bit_xor (bit_xor y (y / 256)) (x / 2048) in
+    bit_xor (bit_xor q (q % 2048 * 32)) (q % 16 * 4096)
+
+-- a pair of bytes at once, as the code reads it
+pub stirred_pair : (c w : ℕ) (pair : List ℕ) → c < 65536 → w ≡ from_be_bytes w16 pair → ((i : ℕ) → get_or pair i 0 < 256) → sums (bit_xor c w) ≡ stirred_two c pair
+unfolding half_quotient quotient remainder
+stirred_pair c w pair h e below =
+    let a = get_or pair 0 0 in
+    let b = get_or pair 1 0 in
+    let both : w ≡ 256 * a + b = omega (arith, e) in
+    ap (λ (v : ℕ). remainder (quotient (bit_xor c v))) both ∙ stirred_at_once c a b h (below 0) (below 1)

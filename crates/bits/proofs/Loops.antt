@@ -1,6 +1,7 @@
 -- One step of the loops that turn bytes into bits and bits into bytes. Assumes nothing.
-use Rattle.std.proofs.Common.{◌≡◌, ℕ, suc, ◌+◌, ◌-◌, ◌*◌, ◌<◌, ◌≤◌, List, [], ◌∷◌, ◌++◌, length, get_or, take, drop, set, sym, refl, ap, ◌∙◌, append_assoc, append-nil, add-zero, arith, lit<}
-use Rattle.std.proofs.lemmas.List.{take_more, take_at, drop_at, drop-drop, drop_all, take_all, take_more_set, length-take-le, get_or-take, get_or-drop}
+use Rattle.std.proofs.Common.{◌≡◌, ℕ, zero, suc, ◌+◌, ◌-◌, ◌*◌, ◌<◌, ◌≤◌, List, [], ◌∷◌, ◌++◌, length, get_or, take, drop, set, sym, refl, ap, ◌∙◌, append_assoc, append-nil, arith}
+use Rattle.std.specs.Simd.{first_chunks}
+use Rattle.std.proofs.lemmas.List.{take_more, take_at, drop_at, drop-drop, take_all, take_more_set, length-take-le}
 use Rattle.bits.specs.Bytes.{bits_of, all_bits, byte_of, all_bytes}
 use Rattle.bits.proofs.Packing.{length-all_bits}
 
@@ -18,9 +19,9 @@ abbrev pub unpacked : ℕ → List ℕ → List ℕ → List ℕ
 unpacked i bs old = all_bits (take i bs) ++ drop (8 * i) old
 
 -- the bits of one byte more, written behind those that stand there
-pub unpacked-more : (bs old out : List ℕ) (i : ℕ) → i < length bs → out ≡ unpacked i bs old →
+pub unpacked_more : (bs old out : List ℕ) (i : ℕ) → i < length bs → out ≡ unpacked i bs old →
     take (8 * i) out ++ (bits_of (get_or bs i 0) ++ drop (8 * i + 8) out) ≡ unpacked (i + 1) bs old
-unpacked-more bs old out i h e =
+unpacked_more bs old out i h e =
     let front : length (all_bits (take i bs)) ≡ 8 * i = length-all_bits (take i bs) ∙ ap (λ (n : ℕ). 8 * n) (length-take-le i bs (omega arith)) in
     let written : take (8 * i) out ≡ all_bits (take i bs) = ap (take (8 * i)) e ∙ take_at (all_bits (take i bs)) (drop (8 * i) old) (8 * i) front in
     let rest : drop (8 * i) out ≡ drop (8 * i) old = ap (drop (8 * i)) e ∙ drop_at (all_bits (take i bs)) (drop (8 * i) old) (8 * i) front in
@@ -33,15 +34,9 @@ unpacked-more bs old out i h e =
     ∙ sym (append_assoc (all_bits (take i bs)) (bits_of (get_or bs i 0)) (drop (8 * (i + 1)) old))
     ∙ ap (λ (ys : List ℕ). ys ++ drop (8 * (i + 1)) old) (sym byte)
 
-pub unpacked-none : (bs old : List ℕ) → old ≡ unpacked 0 bs old
+pub unpacked_none : (bs old : List ℕ) → old ≡ unpacked 0 bs old
 unfolding all_bits
-unpacked-none bs old = refl
-
-pub unpacked-all : (bs old : List ℕ) (i : ℕ) → length bs ≤ i → length old ≤ 8 * i → unpacked i bs old ≡ all_bits bs
-unpacked-all bs old i h k =
-    ap (λ (ys : List ℕ). all_bits (take i bs) ++ ys) (drop_all (8 * i) old k)
-    ∙ append-nil (all_bits (take i bs))
-    ∙ ap all_bits (take_all i bs h)
+unpacked_none bs old = refl
 
 -- what is written, and what the definition makes of the rest of the bits
 abbrev pub packed : ℕ → ℕ → List ℕ → List ℕ → List ℕ
@@ -74,20 +69,10 @@ packed_all xs out n i e h =
     ∙ append-nil (take i out)
     ∙ take_all i out (omega arith)
 
-eighth : (xs : List ℕ) (at k : ℕ) → k < 8 → get_or (take 8 (drop at xs)) k 0 ≡ get_or xs (at + k) 0
-eighth xs at k h = get_or-take 8 (drop at xs) k 0 h ∙ get_or-drop at xs k 0
-
--- the eight bits at a place, read one by one
-pub byte_of-at : (xs : List ℕ) (at : ℕ) →
-    byte_of (get_or xs at 0 ∷ get_or xs (at + 1) 0 ∷ get_or xs (at + 2) 0 ∷ get_or xs (at + 3) 0 ∷ get_or xs (at + 4) 0 ∷ get_or xs (at + 5) 0 ∷ get_or xs (at + 6) 0 ∷ get_or xs (at + 7) 0 ∷ []) ≡ byte_of (take 8 (drop at xs))
-byte_of-at xs at =
-    let e0 = eighth xs at 0 (lit< tt) in
-    let e1 = eighth xs at 1 (lit< tt) in
-    let e2 = eighth xs at 2 (lit< tt) in
-    let e3 = eighth xs at 3 (lit< tt) in
-    let e4 = eighth xs at 4 (lit< tt) in
-    let e5 = eighth xs at 5 (lit< tt) in
-    let e6 = eighth xs at 6 (lit< tt) in
-    let e7 = eighth xs at 7 (lit< tt) in
-    let z = add-zero at in
-    cc
+-- each eight bits are a part of the list
+pub eight_at : (k i : ℕ) (xs : List ℕ) → i < k → get_or (first_chunks 8 k xs) i [] ≡ take 8 (drop (8 * i) xs)
+eight_at zero i xs h = let z : ⊥ = omega arith in absurd z
+eight_at (suc k) zero xs h = refl
+eight_at (suc k) (suc i) xs h =
+    eight_at k i (drop 8 xs) (omega arith)
+    ∙ ap (take 8) (drop-drop (8 * i) 8 xs ∙ ap (λ (n : ℕ). drop n xs) (let e : 8 + 8 * i ≡ 8 * suc i = omega arith in e))

@@ -44,5 +44,5 @@ pub vectors : Vectors
 unfolding pattern all_bytes crc_from shifted_by
 vectors = record { pattern_begins = refl; crc_of_nine = refl }
 
-pub bits-right : BitsRight
-bits-right = record { metric = metric; round_trip = round_trip; pattern_laws = pattern-laws; vectors = vectors }
+pub bits_right : BitsRight
+bits_right = record { metric = metric; round_trip = round_trip; pattern_laws = pattern-laws; vectors = vectors }

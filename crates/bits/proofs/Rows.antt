@@ -1,9 +1,10 @@
 -- The pattern comes again after 255 bits: its first 255 as a list, and the pattern over a list in parts. Assumes nothing.
-use Rattle.std.proofs.Common.{◌≡◌, ℕ, zero, suc, ◌+◌, ◌-◌, ◌%◌, ◌<◌, ◌≤◌, ◌⊎◌, List, [], ◌∷◌, ◌++◌, length, get_or, take, drop, sym, refl, ap, ◌∙◌, inl, inr, ⊎_elim, append_assoc, add-one, arith, length-append, length-drop, take-append-drop}
+use Rattle.std.proofs.Common.{◌≡◌, ℕ, zero, suc, ◌+◌, ◌-◌, ◌%◌, ◌<◌, ◌≤◌, min, ◌⊎◌, List, [], ◌∷◌, ◌++◌, length, get_or, take, drop, sym, refl, subst, ap, ◌∙◌, inl, inr, ⊎_elim, append_assoc, add-one, arith, length-append, length-drop, take-append-drop}
 use borrow.Rule.Slice.PartMut.{put_mid}
 use Rattle.std.proofs.lemmas.List.{length-take-le, drop-drop, drop_all}
 use Rattle.std.proofs.lemmas.Slice.{take-put_mid, drop-put_mid}
-use Rattle.bits.specs.Pattern.{stepped, pattern, plus, patterned_from}
+use Rattle.std.proofs.lemmas.Bool.{cases_lt}
+use Rattle.bits.specs.Pattern.{stepped, pattern, plus, patterned_from, patterned}
 use Rattle.bits.proofs.Patterns.{pattern-laws}
 use Rattle.bits.proofs.Steps.{halfway}
 
@@ -37,11 +38,11 @@ pub row_is : row ≡ pattern 255 255
 unfolding row pattern
 row_is = refl
 
-pub pattern-at : (n r k : ℕ) → k < n → get_or (pattern n r) k 0 ≡ after k r % 2
+pub pattern_at : (n r k : ℕ) → k < n → get_or (pattern n r) k 0 ≡ after k r % 2
 unfolding pattern after
-pattern-at zero r k h = absurd (omega arith)
-pattern-at (suc n) r zero h = refl
-pattern-at (suc n) r (suc k) h = pattern-at n (stepped r) k (omega arith)
+pattern_at zero r k h = absurd (omega arith)
+pattern_at (suc n) r zero h = refl
+pattern_at (suc n) r (suc k) h = pattern_at n (stepped r) k (omega arith)
 
 patterned-parts : (r : ℕ) (xs ys : List ℕ) → patterned_from r (xs ++ ys) ≡ patterned_from r xs ++ patterned_from (after (length xs) r) ys
 unfolding pattern plus after
@@ -60,11 +61,11 @@ patterned-row xs ys w =
     w)
 
 -- the bits from at on, up to end, where the pattern begins anew or the list ends
-abbrev pub RowEnds : List ℕ → ℕ → ℕ → Type 0
+abbrev RowEnds : List ℕ → ℕ → ℕ → Type 0
 RowEnds xs at end = (at < end) × (end ≤ length xs) × ((end ≡ at + 255) ⊎ (end ≡ length xs))
 
 -- what a list holds once its row from at to end is written
-abbrev pub row_written : List ℕ → ℕ → ℕ → List ℕ
+abbrev row_written : List ℕ → ℕ → ℕ → List ℕ
 row_written xs at end = put_mid at (end - at) xs (patterned_from 255 (take (end - at) (drop at xs)))
 
 row-long : (xs : List ℕ) (at end : ℕ) → RowEnds xs at end → length (patterned_from 255 (take (end - at) (drop at xs))) ≡ end - at
@@ -72,13 +73,13 @@ row-long xs at end h =
     pattern-laws.long (take (end - at) (drop at xs))
     ∙ length-take-le (end - at) (drop at xs) (omega (arith, length-drop at xs))
 
-pub length-row : (xs : List ℕ) (at end : ℕ) → RowEnds xs at end → length (row_written xs at end) ≡ length xs
+length-row : (xs : List ℕ) (at end : ℕ) → RowEnds xs at end → length (row_written xs at end) ≡ length xs
 length-row xs at end h =
     let n = end - at in
     let ys = patterned_from 255 (take n (drop at xs)) in
     omega (arith, length-append (take at xs) (ys ++ drop n (drop at xs)), length-append ys (drop n (drop at xs)), length-take-le at xs (omega arith), row-long xs at end h, length-drop n (drop at xs), length-drop at xs)
 
-pub halfway-row : (xs : List ℕ) (at end : ℕ) → RowEnds xs at end → halfway end 255 (row_written xs at end) ≡ halfway at 255 xs
+halfway-row : (xs : List ℕ) (at end : ℕ) → RowEnds xs at end → halfway end 255 (row_written xs at end) ≡ halfway at 255 xs
 halfway-row xs at end h =
     let n = end - at in
     let us = take n (drop at xs) in
@@ -97,3 +98,11 @@ halfway-row xs at end h =
     (sym (patterned-row us (drop end xs) ends)
     ∙ ap (λ (zs : List ℕ). patterned_from 255 (us ++ zs)) (sym behind)
     ∙ ap (λ (zs : List ℕ). patterned_from 255 zs) (take-append-drop n (drop at xs)))
+
+-- one row more
+pub row_more : (xs ys : List ℕ) (at end : ℕ) → at < length xs → end ≡ min (length xs) (at + 255) → ys ≡ patterned (take (end - at) (drop at xs)) →
+    (end ≤ length (put_mid at (end - at) xs ys)) × (halfway end 255 (put_mid at (end - at) xs ys) ≡ halfway at 255 xs)
+row_more xs ys at end h e w =
+    let ends : RowEnds xs at end = (omega arith, omega arith, ⊎_elim (λ k. inr (omega arith)) (λ k. inl (omega arith)) (cases_lt (length xs) (at + 255))) in
+    subst (λ (zs : List ℕ). (end ≤ length (put_mid at (end - at) xs zs)) × (halfway end 255 (put_mid at (end - at) xs zs) ≡ halfway at 255 xs)) (sym w)
+    (omega (arith, length-row xs at end ends, ends.1), halfway-row xs at end ends)

@@ -1,5 +1,5 @@
 -- The tests of a list that each of its numbers is below a bound, taken apart and put together. Assumes nothing.
-use Rattle.std.proofs.Common.{◌≡◌, ℕ, zero, suc, ◌<◌, Bool, true, false, ◌&&◌, T, ltb, List, [], ◌∷◌, ◌++◌, length, get_or, take, drop, sym, refl, ap, subst, ⊎_elim, arith}
+use Rattle.std.proofs.Common.{◌≡◌, ℕ, zero, suc, ◌<◌, Bool, true, false, ◌&&◌, T, ltb, List, [], ◌∷◌, ◌++◌, length, take, drop, get_or, sym, refl, ap, subst, ⊎_elim, arith}
 use Rattle.std.proofs.lemmas.Bool.{ltb-true, lt-ltb, and_parts, and_from, cases_eq}
 use Rattle.bits.specs.Lists.{under, zeros}
 
@@ -34,6 +34,12 @@ pub under_tail : (m x : ℕ) (xs : List ℕ) → T (under m (x ∷ xs)) → T (u
 unfolding under
 under_tail m x xs t = true-holds (under m xs) (and_parts (ltb x m) (under m xs) (holds-true _ t)).1
 
+-- an element is below the bound; so is the default past the end
+pub under-get_or : (m i d : ℕ) (xs : List ℕ) → d < m → T (under m xs) → get_or xs i d < m
+under-get_or m i d [] h t = h
+under-get_or m zero d (x ∷ xs) h t = under-head m x xs t
+under-get_or m (suc i) d (x ∷ xs) h t = under-get_or m i d xs h (under_tail m x xs t)
+
 pub under-nil : (m : ℕ) → T (under m [])
 unfolding under
 under-nil m = tt
@@ -55,12 +61,6 @@ pub under_drop : (m n : ℕ) (xs : List ℕ) → T (under m xs) → T (under m (
 under_drop m zero xs t = t
 under_drop m (suc n) [] t = t
 under_drop m (suc n) (x ∷ xs) t = under_drop m n xs (under_tail m x xs t)
-
--- an element is below the bound; so is the default past the end
-pub under-get_or : (m i d : ℕ) (xs : List ℕ) → d < m → T (under m xs) → get_or xs i d < m
-under-get_or m i d [] h t = h
-under-get_or m zero d (x ∷ xs) h t = under-head m x xs t
-under-get_or m (suc i) d (x ∷ xs) h t = under-get_or m i d xs h (under_tail m x xs t)
 
 pub length-zeros : (n : ℕ) → length (zeros n) ≡ n
 unfolding zeros

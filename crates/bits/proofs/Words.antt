@@ -1,5 +1,6 @@
 -- Eight bytes as one word, the lowest byte first: how a product spreads the bits of a byte over a word, and how one gathers them. Assumes nothing.
-use Rattle.std.proofs.Common.{◌≡◌, ℕ, ◌+◌, ◌*◌, ◌/◌, ◌%◌, ◌<◌, Bool, T, eqb, List, [], ◌∷◌, length, refl, ap, ◌∙◌, ap₂, arith, eqb→eq}
+use Rattle.std.proofs.Common.{◌≡◌, ℕ, ◌+◌, ◌*◌, ◌/◌, ◌%◌, ◌<◌, Bool, T, eqb, List, [], ◌∷◌, length, get_or, refl, ap, ◌∙◌, ap₂, arith, eqb→eq}
+use Rattle.std.specs.Int.{from_le_bytes, w64}
 use lib.Bits.{bit_and, and_block, and_mask}
 use Rattle.bits.specs.Lists.{are_bytes, are_bits}
 use Rattle.bits.specs.Bytes.{bits_of, byte_of}
@@ -21,9 +22,9 @@ spread b = bit_and (b * 9241421688590303745 % 18446744073709551616) 925954212327
 spreads : ℕ → Bool
 spreads b = eqb (distance (bytes_of (spread b)) (bits_of b)) 0
 
-pub spread-bits : (b : ℕ) → b < 256 → bytes_of (spread b) ≡ bits_of b
+pub spread_bits : (b : ℕ) → b < 256 → bytes_of (spread b) ≡ bits_of b
 unfolding spreads every_below distance
-spread-bits b h = distance-zero (bytes_of (spread b)) (bits_of b) (eqb→eq _ _ (every_below-at 256 spreads tt b h))
+spread_bits b h = distance-zero (bytes_of (spread b)) (bits_of b) (eqb→eq _ _ (every_below-at 256 spreads tt b h))
 
 -- the word of some bytes, and the word of as many ones
 unfoldable word_of : List ℕ → ℕ
@@ -76,3 +77,12 @@ gather-byte a b c d e f g h t =
     ∙ ap gather (masked xs t)
     ∙ bits-gather (lowest xs) refl (are_bits-lowest xs)
     ∙ simp low-low
+
+-- the same of a list of bytes, as the code reads it
+pub gathered_bits : (xs : List ℕ) (w : ℕ) → w ≡ from_le_bytes w64 xs → ((i : ℕ) → get_or xs i 0 < 256) →
+    bit_and w 72340172838076673 * 9241421688590303745 % 18446744073709551616 / 72057594037927936 ≡ byte_of xs
+gathered_bits xs w e below =
+    let at : (i : ℕ) → ℕ = λ i. get_or xs i 0 in
+    ap (λ (v : ℕ). bit_and v 72340172838076673 * 9241421688590303745 % 18446744073709551616 / 72057594037927936) e
+    ∙ gather-byte (at 0) (at 1) (at 2) (at 3) (at 4) (at 5) (at 6) (at 7)
+    (under-cons 256 _ _ (below 0) (under-cons 256 _ _ (below 1) (under-cons 256 _ _ (below 2) (under-cons 256 _ _ (below 3) (under-cons 256 _ _ (below 4) (under-cons 256 _ _ (below 5) (under-cons 256 _ _ (below 6) (under-cons 256 _ _ (below 7) (under-nil 256)))))))))

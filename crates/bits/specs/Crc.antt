@@ -1,5 +1,5 @@
 -- The check of 16 bits: CRC-16 with polynomial 4129 (x^16 + x^12 + x^5 + 1), from 65535, highest bit first. Assumes nothing.
-use Rattle.std.specs.Prelude.{ℕ, zero, suc, ◌*◌, ◌%◌, cond, List, [], ◌∷◌, bit_xor, nat_lt}
+use Rattle.std.specs.Prelude.{ℕ, zero, suc, ◌*◌, ◌%◌, cond, List, [], ◌∷◌, bit_xor, nat_lt, slice_index}
 
 -- one bit further: the register times x, modulo the polynomial
 abbrev pub shifted : ℕ → ℕ
@@ -12,6 +12,10 @@ shifted_by (suc n) c = shifted_by n (shifted c)
 -- one byte further
 abbrev pub stirred : ℕ → ℕ → ℕ
 stirred c b = shifted_by 8 (bit_xor c (256 * b))
+
+-- two bytes further
+abbrev pub stirred_two : ℕ → List ℕ → ℕ
+stirred_two c pair = stirred (stirred c (slice_index pair 0)) (slice_index pair 1)
 
 unfoldable pub crc_from : ℕ → List ℕ → ℕ
 crc_from c [] = c

@@ -6,35 +6,25 @@ ghost use Rattle.bits.specs.Packing.{Unpacked, Packed};
 use super::Refusal;
 
 // The eight bits at once: a product puts a copy of the byte at each of eight places, each moved by one more, and of each copy one bit is kept.
-fn spread(b: u8) -> [u8; 8]
-    ensures { result ≡ bits_of b }
-{
-    let copies = (b as u64).wrapping_mul(0x8040_2010_0804_0201);
-    ((copies & 0x8080_8080_8080_8080) / 128).to_le_bytes()
-}
-
+#[tactic(auto, using(crate::proofs::Words::spread_bits))]
 pub fn bits_of(b: u8) -> [u8; 8]
     ensures { result ≡ bits_of b }
 {
-    spread(b)
+    let copies = u64::from(b).wrapping_mul(0x8040_2010_0804_0201);
+    ((copies & 0x8080_8080_8080_8080) / 128).to_le_bytes()
 }
 
 // The byte of eight bits at once: the lowest bits of all stand in one word, and a product brings them together in its highest byte.
-fn gather(bits: [u8; 8]) -> u8
-    ensures { result ≡ byte_of bits }
-{
-    let lowest = u64::from_le_bytes(bits) & 0x0101_0101_0101_0101;
-    (lowest.wrapping_mul(0x8040_2010_0804_0201) / 0x0100_0000_0000_0000) as u8
-}
-
-// The byte of eight bits; of a number above 1 only the lowest bit counts.
+// Of a number above 1 only the lowest bit counts.
+#[tactic(auto, using(crate::proofs::Words::gathered_bits))]
 pub fn byte_of(bits: &[u8; 8]) -> u8
     ensures { result ≡ byte_of bits.now }
 {
-    gather(*bits)
+    let lowest = u64::from_le_bytes(*bits) & 0x0101_0101_0101_0101;
+    (lowest.wrapping_mul(0x8040_2010_0804_0201) / 0x0100_0000_0000_0000) as u8
 }
 
-// Writes the bits of one byte at a place.
+// Writes the bits of one byte at a place, which is counted: of a slice written through `chunks_exact_mut` a proof knows the length alone.
 fn put(out: &mut [u8], at: usize, b: u8)
     requires { at + 8 ≤ length out.old }
     ensures { out.new ≡ take at out.old ++ (bits_of b ++ drop (at + 8) out.old) }
@@ -52,6 +42,7 @@ fn eight_each(bits: usize, bytes: usize) -> Result<(), Refusal>
     Ok(())
 }
 
+#[tactic(auto, using(crate::proofs::Loops::unpacked_none, crate::proofs::Loops::unpacked_more))]
 fn put_all(bytes: &[u8], out: &mut [u8])
     requires { length out.old ≡ 8 * length bytes.now }
     ensures { out.new ≡ all_bits bytes.now }
@@ -70,29 +61,15 @@ pub fn unpack(bytes: &[u8], out: &mut [u8]) -> Result<(), Refusal>
     Ok(())
 }
 
-// The byte of the eight bits at a place.
-fn byte_at(bits: &[u8], at: usize) -> u8
-    requires { at + 8 ≤ length bits.now }
-    ensures { result ≡ byte_of (take 8 (drop at bits.now)) }
-{
-    byte_of(&[
-        bits[at],
-        bits[at + 1],
-        bits[at + 2],
-        bits[at + 3],
-        bits[at + 4],
-        bits[at + 5],
-        bits[at + 6],
-        bits[at + 7],
-    ])
-}
-
+#[tactic(auto, using(crate::proofs::Loops::eight_at, crate::proofs::Loops::packed_more, crate::proofs::Loops::packed_all))]
 fn take_all(bits: &[u8], out: &mut [u8])
     requires { length bits.now ≡ 8 * length out.old }
     ensures { out.new ≡ all_bytes (length out.old) bits.now }
 {
+    let (eights, _) = bits.as_chunks::<8>();
+    // by place: of a slice written through `zip` a proof knows the length alone
     for (i, x) in out.iter_mut().enumerate() {
-        *x = byte_at(bits, 8 * i);
+        *x = byte_of(&eights[i]);
     }
 }
 

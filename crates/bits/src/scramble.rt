@@ -15,6 +15,7 @@ const ROW: [u8; 255] = [
 ];
 
 // The bit at a place of the pattern.
+#[tactic(auto, using(crate::proofs::Rows::row_is), unfolding(crate::proofs::Rows::row))]
 fn pattern_bit(i: usize) -> u8
     requires { i < 255 }
     ensures { result ≡ slice_index (pattern 255 255) i }
@@ -22,7 +23,9 @@ fn pattern_bit(i: usize) -> u8
     ROW[i]
 }
 
-// Adds the pattern, from its beginning, to no more bits than come before it repeats.
+// Adds the pattern, from its beginning, to no more bits than come before it repeats. By place: of a slice written through `zip` a
+// proof knows the length alone.
+#[tactic(auto, using(crate::proofs::Rows::after_none, crate::proofs::Rows::after_more, crate::proofs::Rows::pattern_at, crate::proofs::Steps::patterned_more, crate::proofs::Steps::patterned_all))]
 fn add_row(bits: &mut [u8])
     requires { length bits.old ≤ 255 }
     ensures { bits.new ≡ patterned bits.old }
@@ -32,26 +35,16 @@ fn add_row(bits: &mut [u8])
     }
 }
 
-// Adds the pattern, from its beginning, to the bits from a place on.
-fn add_from(bits: &mut [u8], start: usize)
-    requires { start ≤ length bits.old }
-    ensures { bits.new ≡ take start bits.old ++ patterned (drop start bits.old) }
-{
-    let mut at = start;
-    while at < bits.len() {
-        let end = if bits.len() - at < 255 {
-            bits.len()
-        } else {
-            at + 255
-        };
-        add_row(&mut bits[at..end]);
-        at = end;
-    }
-}
-
-// Adds the pattern, from its beginning, to each of the bits modulo 2.
+// Adds the pattern, from its beginning, to each of the bits modulo 2: row by row, each by its place, since of a slice written
+// through `chunks_mut` a proof knows the length alone.
+#[tactic(auto, using(crate::proofs::Rows::row_more, crate::proofs::Steps::patterned_all))]
 pub fn add_pattern(bits: &mut [u8])
     ensures { bits.new ≡ patterned bits.old }
 {
-    add_from(bits, 0);
+    let mut at = 0;
+    while at < bits.len() {
+        let end = bits.len().min(at + 255);
+        add_row(&mut bits[at..end]);
+        at = end;
+    }
 }

@@ -1,5 +1,7 @@
 -- What each call of the C interface answers, and what the lent buffers hold then. Assumes nothing.
-use Rattle.std.specs.Prelude.{◌≡◌, ℕ, ◌+◌, ◌*◌, ◌≤◌, T, ◌⊎◌, List, length, ◌≢◌}
+use Rattle.std.specs.Prelude.{◌≡◌, ℕ, ◌+◌, ◌*◌, ◌≤◌, T, ◌⊎◌, List, length, Ok, Err, Result, ◌≢◌}
+use Rattle.bits.specs.declared.Refusal.{Refusal}
+use Rattle.bits.specs.Refusals.{number}
 use Rattle.bits.specs.Lists.{are_bits, zeros}
 use Rattle.bits.specs.Distance.{distance}
 use Rattle.bits.specs.Heard.{Lost, Got}
@@ -8,6 +10,11 @@ use Rattle.conv_theory.specs.Code.{sent}
 use Rattle.conv_theory.specs.Search.{heard_bits}
 use Rattle.frame_theory.specs.Frame.{frame, Hears}
 use Rattle.frame_theory.specs.Promise.{FrameBits}
+
+-- 0 it is done, else the refusal's number
+abbrev pub outcome : {A : Type 0} → Result A Refusal → ℕ
+outcome (Ok x) = 0
+outcome (Err e) = number e
 
 -- ---- 4: a buffer of another length than it must have, and then nothing is changed; what the other answers mean is said of buffers that have it
 -- a payload p of 221 bytes into a buffer of 4,092 that held old: 0, and it holds the frame

@@ -6,14 +6,5 @@ mod radio;
 mod sending;
 
 pub use hearing::hear;
-pub use radio::{Codec, Radio};
+pub use radio::Radio;
 pub use sending::send;
-
-// What was heard in the bits of a frame.
-#[derive(Clone, Copy, PartialEq, Debug)]
-pub enum Reception {
-    // no code word is near, or its check is wrong
-    Nothing,
-    // the payload lies in the memory that was lent for it
-    Payload,
-}

@@ -1,7 +1,6 @@
-pub mod Loops
-pub mod Digits
 pub mod Numerals
 pub mod Chunks
+pub mod Held
 pub mod Draws
 pub mod LineLaws
 pub mod ChunkLaws

@@ -15,7 +15,6 @@ digit-of b =
     (cases_eq (b % 2) 0)
 
 all_digits : (bs : List ℕ) → are_digits (digits bs) ≡ true
-unfolding are_digits
 all_digits [] = refl
 all_digits (b ∷ bs) = and_from (is_digit (digit_of b)) (are_digits (digits bs)) (digit-of b) (all_digits bs)
 
@@ -44,7 +43,6 @@ of-digit x e =
     (or_cases (eqb x 48) (eqb x 49) e)
 
 digits-back : (xs : List ℕ) → are_digits xs ≡ true → (xs ≡ digits (bits_in xs)) × T (are_bits (bits_in xs))
-unfolding are_digits
 digits-back [] e = (refl, under-nil 2)
 digits-back (x ∷ xs) e =
     let parts = and_parts (is_digit x) (are_digits xs) e in

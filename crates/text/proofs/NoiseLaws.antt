@@ -32,5 +32,5 @@ vectors : Vectors
 unfolding outputs output
 vectors = record { seed_zero = refl; seed_other = refl }
 
-pub text-right : TextRight
-text-right = record { lines = line-laws; chunks = chunk-laws; noise = record { long = long; bits = still-bits; exactly = exactly }; vectors = vectors }
+pub text_right : TextRight
+text_right = record { lines = line-laws; chunks = chunk-laws; noise = record { long = long; bits = still-bits; exactly = exactly }; vectors = vectors }

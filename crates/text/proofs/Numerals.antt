@@ -5,21 +5,19 @@ use Rattle.std.proofs.lemmas.Bool.{and_parts}
 use Rattle.bits.proofs.Tests.{holds-true}
 use Rattle.text.specs.Numbers.{is_decimal, are_decimal, decimal_from, decimal}
 
-pub are_decimal-more : (xs : List ℕ) (i : ℕ) → i < length xs → are_decimal (drop i xs) ≡ (is_decimal (get_or xs i 0) && are_decimal (drop (i + 1) xs))
-unfolding are_decimal
-are_decimal-more xs i h = ap are_decimal (drop_more xs i 0 h)
+pub are_decimal_more : (xs : List ℕ) (i : ℕ) → i < length xs → are_decimal (drop i xs) ≡ (is_decimal (get_or xs i 0) && are_decimal (drop (i + 1) xs))
+are_decimal_more xs i h = ap are_decimal (drop_more xs i 0 h)
 
-pub are_decimal-all : (xs : List ℕ) (i : ℕ) → length xs ≤ i → are_decimal (drop i xs) ≡ true
-unfolding are_decimal
-are_decimal-all xs i h = ap are_decimal (drop_all i xs h)
+pub are_decimal_all : (xs : List ℕ) (i : ℕ) → length xs ≤ i → are_decimal (drop i xs) ≡ true
+are_decimal_all xs i h = ap are_decimal (drop_all i xs h)
 
-pub decimal_from-more : (xs : List ℕ) (i v : ℕ) → i < length xs → decimal_from v (drop i xs) ≡ decimal_from (10 * v + (get_or xs i 0 - 48)) (drop (i + 1) xs)
+pub decimal_from_more : (xs : List ℕ) (i v : ℕ) → i < length xs → decimal_from v (drop i xs) ≡ decimal_from (10 * v + (get_or xs i 0 - 48)) (drop (i + 1) xs)
 unfolding decimal_from
-decimal_from-more xs i v h = ap (decimal_from v) (drop_more xs i 0 h)
+decimal_from_more xs i v h = ap (decimal_from v) (drop_more xs i 0 h)
 
-pub decimal_from-all : (xs : List ℕ) (i v : ℕ) → length xs ≤ i → decimal_from v (drop i xs) ≡ v
+pub decimal_from_all : (xs : List ℕ) (i v : ℕ) → length xs ≤ i → decimal_from v (drop i xs) ≡ v
 unfolding decimal_from
-decimal_from-all xs i v h = ap (decimal_from v) (drop_all i xs h)
+decimal_from_all xs i v h = ap (decimal_from v) (drop_all i xs h)
 
 -- more digits never stand for less
 pub decimal_from-ge : (v : ℕ) (xs : List ℕ) → v ≤ decimal_from v xs
@@ -28,11 +26,11 @@ decimal_from-ge v [] = omega arith
 decimal_from-ge v (x ∷ xs) = let h = decimal_from-ge (10 * v + (x - 48)) xs in omega arith
 
 -- a digit that is none, or that leads past the bound, refuses the whole
-pub refused-at : (xs : List ℕ) (i v most : ℕ) → i < length xs → decimal_from v (drop i xs) ≡ decimal xs → are_decimal (drop i xs) ≡ are_decimal xs →
+pub refused_at : (xs : List ℕ) (i v most : ℕ) → i < length xs → decimal_from v (drop i xs) ≡ decimal xs → are_decimal (drop i xs) ≡ are_decimal xs →
     (is_decimal (get_or xs i 0) ≡ true → 10 * v + (get_or xs i 0 - 48) ≤ most → ⊥) → T (are_decimal xs) → decimal xs ≤ most → ⊥
-refused-at xs i v most h value tested bad all within =
-    let both = and_parts (is_decimal (get_or xs i 0)) (are_decimal (drop (i + 1) xs)) (sym (are_decimal-more xs i h) ∙ tested ∙ holds-true _ all) in
+refused_at xs i v most h value tested bad all within =
+    let both = and_parts (is_decimal (get_or xs i 0)) (are_decimal (drop (i + 1) xs)) (sym (are_decimal_more xs i h) ∙ tested ∙ holds-true _ all) in
     let w = 10 * v + (get_or xs i 0 - 48) in
     let more = decimal_from-ge w (drop (i + 1) xs) in
-    let step = decimal_from-more xs i v h in
+    let step = decimal_from_more xs i v h in
     bad both.0 (omega arith)

@@ -1,10 +1,5 @@
 -- A line as it comes in, chunk by chunk: what is kept of it, and where it ends. Assumes nothing.
 use Rattle.std.specs.Prelude.{ℕ, ◌+◌, Bool, cond, List, [], ◌∷◌, ◌++◌, length, take, ◌==◌, nat_lt}
-use Rattle.text.specs.declared.line.Line.{Line}
-
--- the text that a line holds, without a newline
-abbrev pub text_of : Line → List ℕ
-text_of l = take l.count l.bytes
 
 -- the bytes in front of the first newline (10), all of them if there is none
 unfoldable pub before : List ℕ → List ℕ

@@ -1,5 +1,6 @@
 -- Lines of text: a frame is a line of n digits 0 and 1, an empty line is nothing heard, any other line is unknown. Assumes nothing.
-use Rattle.std.specs.Prelude.{ℕ, ◌+◌, ◌-◌, ◌%◌, Bool, true, cond, ◌&&◌, ◌||◌, List, [], ◌∷◌, map, length, ◌==◌}
+use Rattle.std.specs.Prelude.{ℕ, ◌+◌, ◌-◌, ◌%◌, Bool, cond, ◌&&◌, ◌||◌, List, map, length, ◌==◌}
+use Rattle.std.specs.List.{list_all}
 
 -- the digit of a bit; of a number above 1 only the lowest bit counts
 abbrev pub digit_of : ℕ → ℕ
@@ -13,9 +14,8 @@ digits bs = map digit_of bs
 abbrev pub is_digit : ℕ → Bool
 is_digit x = x == 48 || x == 49
 
-unfoldable pub are_digits : List ℕ → Bool
-are_digits [] = true
-are_digits (x ∷ xs) = is_digit x && are_digits xs
+abbrev pub are_digits : List ℕ → Bool
+are_digits xs = list_all is_digit xs
 
 -- the bits that digits stand for
 abbrev pub bit_of : ℕ → ℕ

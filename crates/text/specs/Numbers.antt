@@ -1,5 +1,6 @@
 -- Numbers as arguments: decimal digits only, at least one, leading zeros allowed. Assumes nothing.
 use Rattle.std.specs.Prelude.{◌≡◌, ℕ, ◌+◌, ◌-◌, ◌*◌, ◌<◌, ◌≤◌, Bool, true, ◌&&◌, T, List, [], ◌∷◌, length, Ok, Err, Result, nat_le}
+use Rattle.std.specs.List.{list_all}
 use Rattle.bits.specs.declared.Refusal.{Refusal}
 use Rattle.bits.specs.declared.Refusal.TheVariants.{UnknownText}
 
@@ -7,9 +8,8 @@ use Rattle.bits.specs.declared.Refusal.TheVariants.{UnknownText}
 abbrev pub is_decimal : ℕ → Bool
 is_decimal x = nat_le 48 x && nat_le x 57
 
-unfoldable pub are_decimal : List ℕ → Bool
-are_decimal [] = true
-are_decimal (x ∷ xs) = is_decimal x && are_decimal xs
+abbrev pub are_decimal : List ℕ → Bool
+are_decimal xs = list_all is_decimal xs
 
 -- the value of decimal digits behind a number that stands there already, and of digits alone
 unfoldable pub decimal_from : ℕ → List ℕ → ℕ

@@ -1,14 +1,106 @@
-// One line of text, without its newline. At most 4,093 bytes are kept, one more than a frame has digits, so that a longer line is never taken for a frame.
-ghost use Rattle.std.specs.Prelude.{◌≤◌};
+// One line of text, without its newline, as it comes in chunk by chunk. At most 4,093 bytes are kept, one more than a frame has
+// digits, so that a longer line is never taken for a frame.
+ghost use Rattle.std.specs.Prelude.{◌≡◌, [], ◌++◌, ◌==◌, Some, None, if◌then◌else◌, position};
+ghost use Rattle.text.specs.Input.{ends, used, kept, grown};
+ghost use Rattle.text.specs.Lines.{digits};
+
+use super::lines::digits_of;
+use std::marker::Model;
 
 // How many digits a frame has.
 pub const FRAME: usize = 4092;
 
-pub const LONGEST: usize = 4093;
+pub const LONGEST: usize = FRAME + 1;
 
-#[derive(Clone, Copy)]
+// The text stands in front, and zeros behind it: an array, since a line is copied and takes no memory. In a contract a line is its text, a list of bytes.
+#[derive(Clone, Copy, PartialEq, Eq, Debug)]
 pub struct Line {
-    pub(crate) bytes: [u8; LONGEST],
-    pub(crate) count: usize,
-    ghost within: { count ≤ 4093 },
+    bytes: [u8; LONGEST],
+    count: usize,
+}
+
+impl Model for Line {
+    ghost use Rattle.std.specs.Prelude.{List, ℕ};
+
+    ghost Value = { List ℕ };
+
+    ghost use Rattle.text.specs.Held.{text_of, line_of, Filled, line_of-text_of};
+
+    ghost view = { text_of };
+
+    ghost invariant = { Filled };
+
+    ghost inverse = { line_of };
+
+    ghost inverse_ok = { line_of-text_of };
+}
+
+impl Line {
+    // A line with nothing in it.
+    #[tactic(auto, unfolding(bits::specs::Lists::zeros))]
+    pub fn new() -> Line
+        ensures { result ≡ [] }
+    {
+        Line {
+            bytes: [0; LONGEST],
+            count: 0,
+        }
+    }
+
+    pub fn text(&self) -> &[u8]
+        ensures { result.now ≡ self.now }
+    {
+        &self.bytes[..self.count]
+    }
+
+    pub fn clear(&mut self)
+        ensures { self.new ≡ [] }
+    {
+        *self = Line::new();
+    }
+
+    // Puts bytes behind those that are there, as far as there is room.
+    fn keep(&mut self, more: &[u8])
+        ensures { self.new ≡ kept (self.old ++ more.now) }
+    {
+        let from = self.count;
+        let n = more.len().min(LONGEST - from);
+        self.bytes[from..from + n].copy_from_slice(&more[..n]);
+        self.count += n;
+    }
+
+    // Takes in a chunk of input up to its first newline. Where the line ends in it, the answer is how many bytes of the chunk
+    // belong to the line, the newline among them; else all of it does.
+    #[tactic(auto, using(crate::proofs::Chunks::newline_found, crate::proofs::Chunks::newline_unfound))]
+    pub fn take_in(&mut self, chunk: &[u8]) -> Option<usize>
+        ensures text { self.new ≡ grown self.old chunk.now }
+        ensures end { result ≡ (if ends chunk.now then Some (used chunk.now) else None) }
+    {
+        match newline_in(chunk) {
+            Some(end) => {
+                self.keep(&chunk[..end]);
+                Some(end + 1)
+            }
+            None => {
+                self.keep(chunk);
+                None
+            }
+        }
+    }
+
+    // The digits of a frame's bits, in the place of what was there.
+    #[tactic(auto, using(crate::proofs::Chunks::kept_digits))]
+    pub fn write(&mut self, bits: &[u8; FRAME])
+        ensures { self.new ≡ digits bits.now }
+    {
+        self.clear();
+        self.keep(&digits_of(bits));
+    }
+}
+
+// The place of the first newline.
+fn newline_in(chunk: &[u8]) -> Option<usize>
+    ensures { result ≡ position (λ x. x == 10) chunk.now }
+{
+    chunk.iter().position(|x| *x == b'\n')
 }

@@ -1,18 +1,10 @@
 // Frames as lines of digits 0 and 1. An empty line is nothing heard.
-ghost use Rattle.std.specs.Prelude.{◌≡◌, ◌+◌, ◌*◌, ◌≤◌, ◌&&◌, length, MatchResult};
+ghost use Rattle.std.specs.Prelude.{◌≡◌, ◌+◌, ◌*◌, ◌≤◌, ◌&&◌, length};
 ghost use Rattle.text.specs.Lines.{digits, is_digit, are_digits, bits_in};
 ghost use Rattle.text.specs.Reading.{LineRead};
 
+use super::line::FRAME;
 use bits::Refusal;
-
-// What a line of known form says.
-#[derive(Clone, Copy, PartialEq, Debug)]
-pub enum Form {
-    // an empty line: nothing heard
-    Silence,
-    // the bits of one frame
-    Frame,
-}
 
 fn is_digit(x: u8) -> bool
     ensures { result ≡ is_digit x }
@@ -23,45 +15,36 @@ fn is_digit(x: u8) -> bool
 fn all_digits(line: &[u8]) -> bool
     ensures { result ≡ are_digits line.now }
 {
-    for x in line {
-        if !is_digit(*x) {
-            return false;
-        }
-    }
-    true
+    line.iter().all(|x| is_digit(*x))
 }
 
-// The bits of digits, of which there are as many as places for them.
-fn put_bits(line: &[u8], out: &mut [u8])
-    requires { length out.old ≡ length line.now }
-    ensures { out.new ≡ bits_in line.now }
+// The bits of digits. In place, since `map` of an array asks that three arrays fit in memory, which is not known of every N.
+fn bits_in<const N: usize>(line: &[u8; N]) -> [u8; N]
+    ensures { result ≡ bits_in line.now }
 {
-    for (i, x) in out.iter_mut().enumerate() {
-        *x = line[i].saturating_sub(b'0');
+    let mut bits = *line;
+    for x in &mut bits {
+        *x = x.saturating_sub(b'0');
     }
+    bits
 }
 
-// Reads a line, without its newline. A frame has as many digits as there are places for bits; its bits are then there.
-// Anything else than a frame or an empty line is refused. Where there is no frame, the memory stays as it was.
-pub fn read_line(line: &[u8], out: &mut [u8]) -> Result<Form, Refusal>
-    ensures { LineRead line.now out.old out.new result }
+// Reads a line, without its newline: nothing where it is empty, and of a frame, which has N digits, its bits. Anything else is refused.
+pub fn read_line<const N: usize>(line: &[u8]) -> Result<Option<[u8; N]>, Refusal>
+    ensures { LineRead N line.now result }
 {
     if line.is_empty() {
-        return Ok(Form::Silence);
+        return Ok(None);
     }
-    if line.len() != out.len() || !all_digits(line) {
-        return Err(Refusal::UnknownText);
+    match <&[u8; N]>::try_from(line) {
+        Ok(frame) if all_digits(frame) => Ok(Some(bits_in(frame))),
+        _ => Err(Refusal::UnknownText),
     }
-    put_bits(line, out);
-    Ok(Form::Frame)
 }
 
-// The digits of bits, of which there are as many as places for them.
-pub(crate) fn put_digits(bits: &[u8], out: &mut [u8])
-    requires { length out.old ≡ length bits.now }
-    ensures { out.new ≡ digits bits.now }
+// The digits of a frame's bits.
+pub(crate) fn digits_of(bits: &[u8; FRAME]) -> [u8; FRAME]
+    ensures { result ≡ digits bits.now }
 {
-    for (i, x) in out.iter_mut().enumerate() {
-        *x = b'0' + bits[i] % 2;
-    }
+    bits.map(|x| b'0' + x % 2)
 }

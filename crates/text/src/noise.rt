@@ -1,34 +1,31 @@
-// The noise that spoils lines.
-ghost use Rattle.std.specs.Prelude.{◌≡◌, ◌≤◌, length, if◌then◌else◌, nat_lt};
+// The noise that spoils lines. The probability p belongs to a line, and both of its ways share it, so it is no part of a way's noise.
+ghost use Rattle.std.specs.Prelude.{◌≡◌, ◌<◌, ◌≤◌, length, if◌then◌else◌, nat_lt};
 ghost use Rattle.bits.specs.Distance.{differ as differing, distance};
 ghost use Rattle.text.specs.Noise.{stepped, stirred, output, drawn, advanced, other, flipped, behind};
 ghost use Rattle.text.specs.Spoiling.{Spoiled};
 
 // The generator SplitMix64.
-#[derive(Clone, Copy)]
+#[derive(Clone, Copy, PartialEq, Eq, Debug)]
 pub struct Noise {
     pub state: u64,
 }
 
 // A number mixed with its upper bits, times a factor.
-fn stir30(z: u64) -> u64
-    ensures { result ≡ stirred 30 13787848793156543929 z }
+fn stir(z: u64, shift: u32, factor: u64) -> u64
+    requires { shift < 64 }
+    ensures { result ≡ stirred shift factor z }
 {
-    (z ^ (z >> 30)).wrapping_mul(13787848793156543929)
-}
-
-fn stir27(z: u64) -> u64
-    ensures { result ≡ stirred 27 10723151780598845931 z }
-{
-    (z ^ (z >> 27)).wrapping_mul(10723151780598845931)
+    (z ^ (z >> shift)).wrapping_mul(factor)
 }
 
 // The generator's output of a state.
+#[tactic(auto, unfolding(crate::specs::Noise::output))]
 fn mixed(state: u64) -> u64
     ensures { result ≡ output state }
 {
-    let z = stir27(stir30(state));
-    z ^ (z >> 31)
+    let first = stir(state, 30, 13787848793156543929);
+    let second = stir(first, 27, 10723151780598845931);
+    second ^ (second >> 31)
 }
 
 // Whether two numbers differ, as 0 or 1.
@@ -36,7 +33,7 @@ fn differ(x: u8, y: u8) -> usize
     ensures value { result ≡ differing x y }
     ensures bound { result ≤ 1 }
 {
-    if x == y { 0 } else { 1 }
+    usize::from(x != y)
 }
 
 impl Noise {
@@ -74,6 +71,7 @@ impl Noise {
     }
 
     // Each bit, changed where its draw is below p; the answer is how many are changed.
+    #[tactic(auto, using(crate::proofs::Draws::advanced_more, crate::proofs::Draws::advanced_none, crate::proofs::Draws::halfway_more, crate::proofs::Draws::halfway_all, crate::proofs::Draws::changes_more, crate::proofs::Draws::changes_all))]
     fn flip(&mut self, p: u32, bits: &mut [u8]) -> usize
         ensures value { result ≡ distance bits.old bits.new }
         ensures bits { bits.new ≡ flipped p self.old.state bits.old }
@@ -88,10 +86,11 @@ impl Noise {
         changed
     }
 
+    #[tactic(auto, using(crate::proofs::Draws::advanced_more, crate::proofs::Draws::advanced_none))]
     fn skip(&mut self, n: usize)
         ensures { self.new.state ≡ advanced n self.old.state }
     {
-        for i in 0..n {
+        for _ in 0..n {
             self.step();
         }
     }

@@ -1,23 +1,17 @@
-// Numbers as arguments: decimal digits only.
+// Numbers as arguments: decimal digits only (the library's `parse` also takes a sign).
 ghost use Rattle.std.specs.Prelude.{◌≡◌, ◌≤◌};
-ghost use Rattle.text.specs.Numbers.{is_decimal, Appended, Counted, NumberRead};
+ghost use Rattle.text.specs.Numbers.{Appended, Counted, NumberRead};
 
 use bits::Refusal;
-
-fn is_decimal(x: u8) -> bool
-    ensures { result ≡ is_decimal x }
-{
-    x >= b'0' && x <= b'9'
-}
 
 // One digit more behind a number, if the number then is at most `most`.
 fn appended(v: u64, x: u8, most: u64) -> Result<u64, Refusal>
     ensures { Appended v x most result }
 {
-    if !is_decimal(x) {
+    if !x.is_ascii_digit() {
         return Err(Refusal::UnknownText);
     }
-    let next = 10 * u128::from(v) + u128::from(x.saturating_sub(b'0'));
+    let next = 10 * u128::from(v) + u128::from(x - b'0');
     if next > u128::from(most) {
         return Err(Refusal::UnknownText);
     }
@@ -25,6 +19,7 @@ fn appended(v: u64, x: u8, most: u64) -> Result<u64, Refusal>
 }
 
 // The value of decimal digits, any number of them, if it is at most `most`.
+#[tactic(auto, using(crate::proofs::Numerals::are_decimal_more, crate::proofs::Numerals::are_decimal_all, crate::proofs::Numerals::decimal_from_more, crate::proofs::Numerals::decimal_from_all, crate::proofs::Numerals::refused_at))]
 fn value(text: &[u8], most: u64) -> Result<u64, Refusal>
     ensures { Counted text.now most result }
 {
@@ -45,7 +40,7 @@ pub fn number(text: &[u8], most: u64) -> Result<u64, Refusal>
     value(text, most)
 }
 
-// The number of a file: 0 to 255.
+// The number of a file: 0 to 255. The casts here lose nothing by the bound, so that no conversion that may fail is needed.
 pub fn file_number(text: &[u8]) -> Result<u8, Refusal>
     ensures { NumberRead text.now 255 result }
 {

@@ -3,5 +3,5 @@ use Rattle.std.proofs.Common.{◌≡◌, ◌-◌}
 use Rattle.text.specs.Noise.{advanced}
 use Rattle.text.proofs.noise.Noise.skip.Given as goal
 
-abbrev pub invariant-loop-i : goal.invariant-loop-i
-invariant-loop-i l = advanced (l.n - l.i) l.self.state ≡ advanced l.n l.initial.self.state
+abbrev pub invariant-loop : goal.invariant-loop
+invariant-loop l = advanced (l.n - l.counter) l.self.state ≡ advanced l.n l.initial.self.state
