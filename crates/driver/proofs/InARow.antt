@@ -1,6 +1,6 @@
 -- Rounds of a log that came through are rounds in a row: enough of them end it. Assumes nothing.
-use Rattle.std.proofs.Common.{◌≡◌, ℕ, ◌+◌, Bool, true, false, cond, T, ltb, ◌⊎◌, List, [], ◌∷◌, ◌++◌, length, sym, ap, ◌∙◌, subst, inl, inr}
-use Rattle.std.proofs.lemmas.Bool.{cases_Bool, cond-true, cond-false, and_parts}
+use Rattle.std.proofs.Common.{◌≡◌, ℕ, ◌+◌, Bool, true, false, cond, T, ltb, List, [], ◌∷◌, ◌++◌, length, sym, refl, ap, ◌∙◌, subst}
+use Rattle.std.proofs.lemmas.Bool.{cond-false, and_parts}
 use Rattle.bits.specs.Heard.{Heard, Lost, Got}
 use Rattle.transfer_theory.specs.Sender.{Sender, says, after_saying, told, asks, tells_done, at_part, with_place, finished}
 use Rattle.transfer_theory.specs.Payload.{number_of}
@@ -15,7 +15,8 @@ use Rattle.transfer_theory.proofs.Following.{whole-line}
 use Rattle.transfer_theory.proofs.InStep.{lockstep}
 use Rattle.driver.specs.Log.{Exchange, Spoken, sender_by, receiver_by, clean, world_by, AllThrough}
 use Rattle.driver.specs.Played.{Reached, FileKept, KeepsFile, EndsInTime}
-use Rattle.driver.proofs.Worlds.{turn, turn_is, log-run, rest-spoken, spoken-in}
+use Rattle.driver.specs.Driving.{turn}
+use Rattle.driver.proofs.Worlds.{turn_is, log-run, rest-spoken, spoken-in}
 
 -- what comes of an answer or nothing, on a line C
 abbrev pub Answered : (List ℕ → Heard → Type 0) → Heard → Heard → Type 0
@@ -35,7 +36,8 @@ pub exchange-round :
     (C : List ℕ → Heard → Type 0) (w : World) (x : Exchange) (log : List Exchange) → Spoken w.sender w.receiver (x ∷ log) →
     C x.forth x.below → Answered C x.back x.above → Round C (world_by w log) (world_by w (x ∷ log))
 unfolding Spoken receiver_by
-exchange-round C w x log (forth, back, rest) d a = subst (λ (u : World). Round C (world_by w log) u) (turn_is w x log (forth, back, rest)) (go (cases_Bool (ltb 0 v.size)))
+exchange-round C w x log (forth, back, rest) d a =
+    subst (λ (u : World). Round C (world_by w log) u) (turn_is w x log (forth, back, rest)) (go (ltb 0 v.size) refl back)
   where
     v : Receiver
     v = hears x.below (receiver_by w.receiver log)
@@ -43,12 +45,9 @@ exchange-round C w x log (forth, back, rest) d a = subst (λ (u : World). Round 
     down : C (says (sender_by w.sender log)) x.below
     down = subst (λ (p : List ℕ). C p x.below) forth d
 
-    go : (ltb 0 v.size ≡ true) ⊎ (ltb 0 v.size ≡ false) → Round C (world_by w log) (turn x.below x.above (world_by w log))
-    go (inl e) =
-        let z : x.back ≡ Got (answers v) = back ∙ cond-true (ltb 0 v.size) (Got (answers v)) Lost e in
-        both x.below x.above down (holds (ltb 0 v.size) e) (subst (λ (s : Heard). Answered C s x.above) z a)
-    go (inr e) =
-        let z : x.back ≡ Lost = back ∙ cond-false (ltb 0 v.size) (Got (answers v)) Lost e in
+    go : (b : Bool) → ltb 0 v.size ≡ b → x.back ≡ cond b (Got (answers v)) Lost → Round C (world_by w log) (turn x.below x.above (world_by w log))
+    go true e z = both x.below x.above down (holds (ltb 0 v.size) e) (subst (λ (s : Heard). Answered C s x.above) z a)
+    go false e z =
         let q : x.above ≡ Lost = subst (λ (s : Heard). Answered C s x.above) z a in
         subst (λ (u : World). Round C (world_by w log) u)
         (sym (ap (λ (h : Heard). turn x.below h (world_by w log)) q ∙ mute-turn x.below (world_by w log) e)) (mute x.below down e)

@@ -1,3 +1,4 @@
 pub mod Worlds
 pub mod InARow
 pub mod Logged
+pub mod Plain

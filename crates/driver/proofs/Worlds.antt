@@ -1,20 +1,18 @@
 -- The world that a log leads to: a round more is four steps, and a log is a run with its mark. Assumes nothing.
 use Rattle.std.proofs.Common.{◌≡◌, ℕ, Bool, true, false, cond, ◌&&◌, ltb, List, [], ◌∷◌, sym, refl, ap, ◌∙◌, subst}
+use Rattle.std.proofs.Math.Bool.{and-true, and_assoc}
 use Rattle.bits.specs.Heard.{Heard, Lost, Got}
 use Rattle.transfer_theory.specs.Sender.{Sender, after_saying, told}
 use Rattle.transfer_theory.specs.Receiver.{Receiver, hears, answers}
-use Rattle.transfer_theory.specs.World.{World, Run, spoke, replied, below, above, step, Says, Asks, Down, Up, fair}
+use Rattle.transfer_theory.specs.World.{World, Run, spoke, replied, below, above, step, Says, Asks, Down, fair}
 use Rattle.driver.specs.Log.{Exchange, replies, with_answer, Spoken, sender_by, receiver_by, said_down, said_up, clean, world_by}
 use Rattle.driver.specs.Played.{RunsOn}
+use Rattle.driver.specs.Driving.{turn}
 
 -- an answer, if there is one, is said
 answer-said : (b : Bool) (p : List ℕ) (ps : List (List ℕ)) → cond b (p ∷ ps) ps ≡ with_answer (cond b (Got p) Lost) ps
 answer-said true p ps = refl
 answer-said false p ps = refl
-
--- one round, as steps
-abbrev pub turn : Heard → Heard → World → World
-turn b a w = step (Up a) (step Asks (step (Down b) (step Says w)))
 
 up-said : (x : Exchange) (v : Receiver) (ps : List (List ℕ)) → x.back ≡ replies v → cond (ltb 0 v.size) (answers v ∷ ps) ps ≡ with_answer x.back ps
 up-said x v ps e = answer-said (ltb 0 v.size) (answers v) ps ∙ ap (λ (s : Heard). with_answer s ps) (sym e)
@@ -32,15 +30,6 @@ turn_is w x log (forth, back, rest) =
     (up-said x v (said_up w.up log) back)
 
 -- ---- the run that a log is
-and-true : (c : Bool) → c ≡ (c && true)
-and-true true = refl
-and-true false = refl
-
-and_again : (c k p q : Bool) → (((c && k) && p) && q) ≡ (c && (k && (p && q)))
-and_again true true p q = refl
-and_again true false p q = refl
-and_again false k p q = refl
-
 -- the mark of one round more
 mark-more :
     (n : ℕ) (c : Bool) (w : World) (x : Exchange) (log : List Exchange) → Spoken w.sender w.receiver (x ∷ log) →
@@ -55,7 +44,8 @@ mark-more n c w x log (forth, back, rest) =
     let k = c && clean n w.down w.up log in
     ap (λ (p : List ℕ). (k && fair n x.below (p ∷ d)) && fair n x.above (cond (ltb 0 v.size) (answers v ∷ u) u)) (sym forth) ∙
     ap (λ (us : List (List ℕ)). (k && fair n x.below (x.forth ∷ d)) && fair n x.above us) (up-said x v u back) ∙
-    and_again c (clean n w.down w.up log) (fair n x.below (x.forth ∷ d)) (fair n x.above (with_answer x.back u))
+    and_assoc k (fair n x.below (x.forth ∷ d)) (fair n x.above (with_answer x.back u)) ∙
+    and_assoc c (clean n w.down w.up log) (fair n x.below (x.forth ∷ d) && fair n x.above (with_answer x.back u))
 
 pub rest-spoken : (s : Sender) (v : Receiver) (x : Exchange) (log : List Exchange) → Spoken s v (x ∷ log) → Spoken s v log
 unfolding Spoken
@@ -65,7 +55,7 @@ pub log-run :
     (n : ℕ) (f : List ℕ) (c : Bool) (w : World) (log : List Exchange) → Spoken w.sender w.receiver log → Run n f c w →
     Run n f (c && clean n w.down w.up log) (world_by w log)
 unfolding sender_by receiver_by said_down said_up clean
-log-run n f c w [] o r = subst (λ (b : Bool). Run n f b w) (and-true c) r
+log-run n f c w [] o r = subst (λ (b : Bool). Run n f b w) (sym (and-true c)) r
 log-run n f c w (x ∷ log) o r =
     let q = log-run n f c w log (rest-spoken w.sender w.receiver x log o) r in
     let v = world_by w log in

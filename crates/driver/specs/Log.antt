@@ -1,5 +1,6 @@
 -- The log of a line, round by round, and what it says: how both sides come out of it, whether anything false was heard, when the station was first complete. Assumes nothing.
-use Rattle.std.specs.Prelude.{◌≡◌, ℕ, zero, suc, Bool, true, false, cond, not, ◌&&◌, List, [], ◌∷◌, length, nat_lt}
+use Rattle.std.specs.Prelude.{◌≡◌, ℕ, suc, Bool, true, false, cond, not, ◌&&◌, Option, None, Some, List, [], ◌∷◌, length, nat_lt}
+use Rattle.std.specs.Bool.{then_some}
 use Rattle.bits.specs.Heard.{Heard, Lost, Got}
 use Rattle.transfer_theory.specs.Sender.{Sender, says, after_saying, told}
 use Rattle.transfer_theory.specs.Receiver.{Receiver, hears, answers, complete}
@@ -71,13 +72,13 @@ abbrev pub world_by : World → List Exchange → World
 world_by w log =
     record { sender = sender_by w.sender log; receiver = receiver_by w.receiver log; down = said_down w.down log; up = said_up w.up log }
 
--- ---- the first round, counted from 1, after which the station was complete, or 0; `noted`: after one round more, which was the k-th
-abbrev pub noted : ℕ → ℕ → Bool → ℕ
-noted zero k b = cond b k 0
-noted (suc j) k b = suc j
+-- ---- the first round, counted from 1, after which the station was complete, or none; `noted`: after one round more, which was the k-th
+abbrev pub noted : Option ℕ → ℕ → Bool → Option ℕ
+noted None k b = then_some b k
+noted (Some j) k b = Some j
 
-unfoldable pub first_complete : Receiver → List Exchange → ℕ
-first_complete v [] = 0
+unfoldable pub first_complete : Receiver → List Exchange → Option ℕ
+first_complete v [] = None
 first_complete v (x ∷ log) = noted (first_complete v log) (suc (length log)) (complete (receiver_by v (x ∷ log)))
 
 -- ---- a round that came through: what was said was heard, both ways, nothing said as nothing

@@ -1,5 +1,5 @@
 -- What the driver promises of the rounds that it plays: its log, the run that this is, the file, and that enough rounds in a row end it. Assumes nothing.
-use Rattle.std.specs.Prelude.{◌≡◌, ℕ, ◌+◌, ◌<◌, ◌≤◌, Bool, true, ◌&&◌, T, List, ◌++◌, length}
+use Rattle.std.specs.Prelude.{◌≡◌, ℕ, ◌+◌, ◌<◌, ◌≤◌, Bool, true, ◌&&◌, T, Option, List, ◌++◌, length}
 use Rattle.bits.specs.Heard.{Heard, Lost, Got}
 use Rattle.transfer_theory.specs.Parts.{IsFile, parts}
 use Rattle.transfer_theory.specs.Sender.{Sender, says, after_saying, told}
@@ -9,8 +9,8 @@ use Rattle.transfer_theory.specs.Invariant.{PartRight}
 use Rattle.transfer_theory.specs.Onward.{IsPayload, Arrived}
 use Rattle.driver.specs.Log.{Exchange, replies, Carried, Spoken, Ongoing, sender_by, receiver_by, world_by, clean, first_complete, AllThrough}
 
--- the line kept a log of k rounds, from its state l to m, by which both sides came from what they were (s, v) to what they are (t, u); the station was first complete after the j-th
-pub record Played {L : Type 0} (F B : L → Heard → Heard → L → Type 0) (l m : L) (s t : Sender) (v u : Receiver) (k j : ℕ) : Type 0 where
+-- the line kept a log of k rounds, from its state l to m, by which both sides came from what they were (s, v) to what they are (t, u); the station was first complete after the round j, if after any
+pub record Played {L : Type 0} (F B : L → Heard → Heard → L → Type 0) (l m : L) (s t : Sender) (v u : Receiver) (k : ℕ) (j : Option ℕ) : Type 0 where
   pub log : List Exchange
   pub carried : Carried F B l log m
   pub spoken : Spoken s v log
@@ -21,7 +21,7 @@ pub record Played {L : Type 0} (F B : L → Heard → Heard → L → Type 0) (l
   pub first : j ≡ first_complete v log
 
 -- rounds more: whatever log led to what both sides and the line were, a longer one leads to what they are
-abbrev pub PlayedOn : {L : Type 0} → (F B : L → Heard → Heard → L → Type 0) → L → L → Sender → Sender → Receiver → Receiver → ℕ → ℕ → ℕ → ℕ → Type 0
+abbrev pub PlayedOn : {L : Type 0} → (F B : L → Heard → Heard → L → Type 0) → L → L → Sender → Sender → Receiver → Receiver → ℕ → Option ℕ → ℕ → Option ℕ → Type 0
 PlayedOn {L} F B m o a t b u k j r i = (l : L) (s : Sender) (v : Receiver) → Played F B l m s a v b k j → Played F B l o s t v u r i
 
 -- one round of it

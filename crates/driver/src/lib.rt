@@ -1,86 +1,42 @@
 // The driver: plays rounds over any ship, station and line, and says in which round the station was first complete and whether the ship was told.
 #![tactic(auto)]
 
-ghost use Rattle.std.specs.Prelude.{◌≡◌, ◌<◌, ◌≤◌, true, false};
-ghost use Rattle.bits.specs.Heard.{Got};
-ghost use Rattle.transfer_theory.specs.Sender.{told};
-ghost use Rattle.transfer_theory.specs.Receiver.{hears, complete as is_complete};
-ghost use Rattle.transfer.specs.Lines.{heard_of};
-ghost use Rattle.driver.specs.Log.{Exchange, replies, ongoing, noted};
+ghost use Rattle.std.specs.Prelude.{◌≡◌, ◌<◌, ◌≤◌, true};
+ghost use Rattle.bits.specs.Heard.{Heard};
+ghost use Rattle.driver.specs.Log.{ongoing};
 ghost use Rattle.driver.specs.Played.{Turned, Played, PlayedOn, Promised, DriverRight, Enough};
+ghost use Rattle.driver.specs.Driving.{Brought, PlainPlayed, EndsInRun, PlainEnough, PlainRight};
 
-pub mod line;
+use transfer::sides::{Line, Ship, Station};
 
-use line::TracedLine;
-use transfer::sides::{Ship, Station};
-
-// What came of it. complete: the round, counted from 1, after which the station was first complete, or 0. told: whether the ship was told.
-#[derive(Clone, Copy)]
+// What came of it; the default is that of no round. complete: the round, counted from 1, after which the station was first complete, or none. told: whether the ship was told.
+#[derive(Clone, Copy, PartialEq, Eq, Debug, Default)]
 pub struct Outcome {
     pub rounds: u64,
-    pub complete: u64,
+    pub complete: Option<u64>,
     pub told: bool,
 }
 
-// The station takes in a payload or nothing.
-fn take_below<G: Station>(station: &mut G, heard: &Option<[u8; 221]>)
-    requires { G.Station.sound station.old }
-    ensures sound { G.Station.sound station.new }
-    ensures heard { G.Station.receiver station.new ≡ hears (heard_of heard.now) (G.Station.receiver station.old) }
-{
-    match heard {
-        Some(payload) => station.heard(payload),
-        None => {}
-    }
-}
-
-// The ship takes in a payload or nothing.
-fn take_above<S: Ship>(ship: &mut S, heard: &Option<[u8; 221]>)
-    ensures { S.Ship.sender ship.new ≡ told (heard_of heard.now) (S.Ship.sender ship.old) }
-{
-    match heard {
-        Some(payload) => ship.heard(payload),
-        None => {}
-    }
-}
-
-// What the station says: its answer, or nothing while it has no length.
-fn reply<G: Station>(station: &G) -> Option<[u8; 221]>
-    requires { G.Station.sound station.now }
-    ensures { heard_of result ≡ replies (G.Station.receiver station.now) }
-{
-    let mut out = [0; 221];
-    if station.answer(&mut out) {
-        Some(out)
-    } else {
-        None
-    }
+// Any line without a state: what may be heard when this was said, nothing said and nothing heard being Lost.
+pub trait PlainLine {
+    ghost comes: { Heard → Heard → Type 0 };
 }
 
 // One round: the ship says, the station hears and answers if it has a length, the ship hears.
-fn round<S: Ship, G: Station, L: TracedLine>(ship: &mut S, station: &mut G, line: &mut L)
-    requires { G.Station.sound station.old }
-    ensures sound { G.Station.sound station.new }
-    ensures turned { Turned L.TracedLine.forth L.TracedLine.back line.old line.new (S.Ship.sender ship.old) (S.Ship.sender ship.new) (G.Station.receiver station.old) (G.Station.receiver station.new) }
+// (No struct of the three: they are a caller's own, and it would borrow them only to be taken apart.)
+#[tactic(auto, using(crate::proofs::Logged::reply_is, crate::proofs::Logged::hears_nothing, crate::proofs::Logged::told_nothing))]
+fn round<S: Ship, G: Station, L: Line>(ship: &mut S, station: &mut G, line: &mut L)
+    ensures { Turned L.Line.forth L.Line.back line.old line.new (S.Ship.sender ship.old) (S.Ship.sender ship.new) (G.Station.receiver station.old) (G.Station.receiver station.new) }
 {
     let mut said = [0; 221];
     ship.next(&mut said);
-    let below = line.down(&said);
-    take_below(station, &below);
-    let answer = reply(station);
-    let above = line.up(&answer);
-    take_above(ship, &above);
-}
-
-// The first complete round, if there was one already, or this one, if the station is complete now, or 0.
-fn note<G: Station>(station: &G, complete: u64, rounds: u64) -> u64
-    requires { G.Station.sound station.now }
-    ensures { result ≡ noted complete rounds (is_complete (G.Station.receiver station.now)) }
-{
-    if complete != 0 {
-        return complete;
+    if let Some(payload) = line.down(&said) {
+        station.heard(&payload);
     }
-    if station.complete() { rounds } else { 0 }
+    let answer = station.answer();
+    if let Some(payload) = line.up(&answer) {
+        ship.heard(&payload);
+    }
 }
 
 // Whether one round more is played: the budget is not spent, and the ship is not done.
@@ -91,26 +47,25 @@ fn goes_on<S: Ship>(ship: &S, rounds: u64, budget: u64) -> bool
 }
 
 // Plays on after rounds that were played already, until the ship is told or so many rounds were played in all.
-pub fn play_on<S: Ship, G: Station, L: TracedLine>(
+pub fn play_on<S: Ship, G: Station, L: Line>(
     ship: &mut S,
     station: &mut G,
     line: &mut L,
     so_far: Outcome,
     budget: u64,
 ) -> Outcome
-    requires { G.Station.sound station.old }
-    ensures sound { G.Station.sound station.new }
-    ensures played { PlayedOn L.TracedLine.forth L.TracedLine.back line.old line.new (S.Ship.sender ship.old) (S.Ship.sender ship.new) (G.Station.receiver station.old) (G.Station.receiver station.new) so_far.rounds so_far.complete result.rounds result.complete }
+    ensures played { PlayedOn L.Line.forth L.Line.back line.old line.new (S.Ship.sender ship.old) (S.Ship.sender ship.new) (G.Station.receiver station.old) (G.Station.receiver station.new) so_far.rounds so_far.complete result.rounds result.complete }
     ensures told { result.told ≡ (S.Ship.sender ship.new).done }
     ensures budget { so_far.rounds ≤ budget → result.rounds ≤ budget }
     ensures stopped { result.rounds < budget → result.told ≡ true }
 {
     let mut rounds = so_far.rounds;
     let mut complete = so_far.complete;
+    // the count of rounds is part of the answer, and the ship may end them at any time
     while goes_on(ship, rounds, budget) {
         round(ship, station, line);
         rounds += 1;
-        complete = note(station, complete, rounds);
+        complete = complete.or_else(|| station.complete().then_some(rounds));
     }
     Outcome {
         rounds,
@@ -119,32 +74,37 @@ pub fn play_on<S: Ship, G: Station, L: TracedLine>(
     }
 }
 
-// Plays rounds until the ship is told or the budget is spent.
-pub fn play<S: Ship, G: Station, L: TracedLine>(
+// Plays rounds until the ship is told or the budget is spent. The clauses plain, run and plain_enough see the line as one without a state, by what it brings.
+pub fn play<S: Ship, G: Station, L: Line>(
     ship: &mut S,
     station: &mut G,
     line: &mut L,
     budget: u64,
 ) -> Outcome
-    requires { G.Station.sound station.old }
-    ensures sound { G.Station.sound station.new }
-    ensures played { (p : Played L.TracedLine.forth L.TracedLine.back line.old line.new (S.Ship.sender ship.old) (S.Ship.sender ship.new) (G.Station.receiver station.old) (G.Station.receiver station.new) result.rounds result.complete) × Promised (S.Ship.sender ship.old) (G.Station.receiver station.old) p.log }
+    ensures played { (p : Played L.Line.forth L.Line.back line.old line.new (S.Ship.sender ship.old) (S.Ship.sender ship.new) (G.Station.receiver station.old) (G.Station.receiver station.new) result.rounds result.complete) × Promised (S.Ship.sender ship.old) (G.Station.receiver station.old) p.log }
+    ensures plain { PlainPlayed (Brought L.Line.forth L.Line.back) (S.Ship.sender ship.old) (G.Station.receiver station.old) result.rounds result.complete (S.Ship.sender ship.new) (G.Station.receiver station.new) }
+    ensures run { EndsInRun (S.Ship.sender ship.old) (G.Station.receiver station.old) (S.Ship.sender ship.new) (G.Station.receiver station.new) }
     ensures told { result.told ≡ (S.Ship.sender ship.new).done }
     ensures budget { result.rounds ≤ budget }
     ensures stopped { result.rounds < budget → result.told ≡ true }
-    ensures enough { Enough L.TracedLine.forth L.TracedLine.back (S.Ship.sender ship.old) (G.Station.receiver station.old) budget result.told }
+    ensures enough { Enough L.Line.forth L.Line.back (S.Ship.sender ship.old) (G.Station.receiver station.old) budget result.told }
+    ensures plain_enough { PlainEnough (Brought L.Line.forth L.Line.back) (S.Ship.sender ship.old) (G.Station.receiver station.old) budget result.told }
 {
-    let nothing = Outcome {
-        rounds: 0,
-        complete: 0,
-        told: false,
-    };
-    play_on(ship, station, line, nothing, budget)
+    play_on(ship, station, line, Outcome::default(), budget)
 }
 
 // What the log of rounds played promises, whoever played them.
+#[tactic(auto, using(crate::proofs::Logged::promised))]
 pub fn driver_stands() -> u8
     ensures { DriverRight }
+{
+    0
+}
+
+// What rounds promise over a line that keeps to one without a state.
+#[tactic(auto, using(crate::proofs::Plain::plain_right))]
+pub fn plain_stands<L: Line, P: PlainLine>() -> u8
+    ensures { PlainRight P.PlainLine.comes L.Line.forth L.Line.back }
 {
     0
 }

@@ -1,27 +1,10 @@
 -- Lists of bytes: a body that is cut at the payload's end, zeros behind, and a payload written out. Assumes nothing.
-use Rattle.std.proofs.Common.{◌≡◌, ℕ, zero, suc, ◌+◌, ◌-◌, ◌/◌, ◌%◌, ◌≤◌, min, List, [], ◌∷◌, ◌++◌, length, take, drop, sym, refl, ap, ◌∙◌, append-nil, arith, length-drop, take_all}
+use Rattle.std.proofs.Common.{◌≡◌, ℕ, zero, suc, ◌+◌, ◌-◌, ◌/◌, ◌%◌, ◌≤◌, List, ◌∷◌, ◌++◌, length, take, drop, sym, refl, ap, ◌∙◌, append-nil, arith}
 use native.Mathlib.Nat.{zero-sub, sub-zero}
 use lib.Seq.{take-append-add}
 use borrow.Rule.Slice.PartMut.{put_mid}
 use Rattle.bits.specs.Lists.{zeros}
 use Rattle.transfer_theory.specs.Payload.{filled, built, payload}
-
-pub take_min : (a b : ℕ) (xs : List ℕ) → take a (take b xs) ≡ take (min a b) xs
-take_min zero b xs = let q : 0 ≡ min 0 b = omega arith in ap (λ (k : ℕ). take k xs) q
-take_min (suc a) zero xs = let q : 0 ≡ min (suc a) 0 = omega arith in ap (λ (k : ℕ). take k xs) q
-take_min (suc a) (suc b) [] = let q : suc (min a b) ≡ min (suc a) (suc b) = omega arith in ap (λ (k : ℕ). take k []) q
-take_min (suc a) (suc b) (x ∷ xs) =
-    let q : suc (min a b) ≡ min (suc a) (suc b) = omega arith in ap (λ (ys : List ℕ). x ∷ ys) (take_min a b xs) ∙ ap (λ (k : ℕ). take k (x ∷ xs)) q
-
--- a count above what is there takes what is there
-pub body-cut : (p : List ℕ) (c m : ℕ) → length p ≡ 221 → m ≡ min c 214 → take c (drop 7 p) ≡ take (7 + m - 7) (drop 7 p)
-body-cut p c m e q = go (length-drop 7 p ∙ ap (λ (k : ℕ). k - 7) e)
-  where
-    z : 7 + m - 7 ≡ min c 214
-    z = omega arith
-
-    go : length (drop 7 p) ≡ 214 → take c (drop 7 p) ≡ take (7 + m - 7) (drop 7 p)
-    go l = ap (λ (xs : List ℕ). take c xs) (sym (take_all 214 (drop 7 p) (omega arith))) ∙ take_min c 214 (drop 7 p) ∙ ap (λ (k : ℕ). take k (drop 7 p)) (sym z)
 
 pub drop-zeros : (n m : ℕ) → drop n (zeros m) ≡ zeros (m - n)
 unfolding zeros
@@ -48,10 +31,10 @@ payload-is kind file n bs h =
     ap (λ (xs : List ℕ). bs ++ xs) (take-zeros (214 - length bs) 221 (omega arith)))
 
 -- the head and the body written make the payload
-pub payload-written :
-    (kind file n m : ℕ) (bs xs ys : List ℕ) → length bs ≤ 214 → xs ≡ kind ∷ file ∷ n / 256 ∷ n % 256 ∷ length bs ∷ 0 ∷ 0 ∷ zeros 214 → ys ≡ bs →
-    m ≡ length bs → put_mid 7 m xs ys ≡ payload kind file n bs
-payload-written kind file n m bs xs ys h e q l =
-    ap (λ (zs : List ℕ). put_mid 7 m zs ys) e ∙ ap (λ (zs : List ℕ). kind ∷ file ∷ n / 256 ∷ n % 256 ∷ length bs ∷ 0 ∷ 0 ∷ (zs ++ drop m (zeros 214))) q ∙
-    ap (λ (zs : List ℕ). kind ∷ file ∷ n / 256 ∷ n % 256 ∷ length bs ∷ 0 ∷ 0 ∷ (bs ++ zs)) (drop-zeros m 214 ∙ ap (λ (k : ℕ). zeros (214 - k)) l) ∙
+pub payload_written :
+    (kind file n : ℕ) (bs : List ℕ) → length bs ≤ 214 →
+    put_mid 7 (7 + length bs - 7) (kind ∷ file ∷ n / 256 ∷ n % 256 ∷ length bs ∷ 0 ∷ 0 ∷ zeros 214) bs ≡ payload kind file n bs
+payload_written kind file n bs h =
+    let q : 7 + length bs - 7 ≡ length bs = omega arith in
+    ap (λ (zs : List ℕ). kind ∷ file ∷ n / 256 ∷ n % 256 ∷ length bs ∷ 0 ∷ 0 ∷ (bs ++ zs)) (drop-zeros (7 + length bs - 7) 214 ∙ ap (λ (k : ℕ). zeros (214 - k)) q) ∙
     sym (payload-is kind file n bs h)

@@ -1,11 +1,11 @@
 -- Copying the slots' bytes out, one after the other, up to the length. Assumes nothing.
-use Rattle.std.proofs.Common.{◌≡◌, ℕ, zero, suc, ◌+◌, ◌-◌, ◌*◌, ◌<◌, min, List, [], ◌∷◌, ◌++◌, length, get_or, take, drop, sym, refl, ap, ◌∙◌, inl, inr, append_assoc, append-nil, arith, length-append, length-take, take_all, drop-drop, take_at}
+use Rattle.std.proofs.Common.{Bor, map, get_or-take, Option, Some, None, MatchOption, ◌≡◌, ℕ, zero, suc, ◌+◌, ◌-◌, ◌<◌, List, [], ◌∷◌, ◌++◌, length, get_or, take, drop, sym, refl, ap, ◌∙◌, inl, inr, append_assoc, append-nil, arith, length-append, length-take, take_all, drop-drop, take_at}
 use lib.Seq.{take-append-le, take-append-add, drop-append-add}
 use Rattle.std.proofs.lemmas.Bool.{cases_lt}
 use Rattle.transfer_theory.specs.Receiver.{Slot, Missing, Have, joined}
-use Rattle.transfer.specs.Memory.{slot_of, slots_of, bytes_in, overwritten}
-use Rattle.transfer.proofs.Bytes.{take_min}
-use Rattle.transfer.proofs.Slotted.{slots_at}
+use Rattle.std.specs.Option.{unwrap_or}
+use Rattle.std.proofs.lemmas.List.{get_or-map}
+use Rattle.transfer.specs.Memory.{slot_read, overwritten}
 
 -- what a slot adds
 abbrev pub held : Slot → List ℕ
@@ -21,23 +21,24 @@ joined-more (suc i) [] = refl
 joined-more (suc i) (Missing ∷ ss) = joined-more i ss
 joined-more (suc i) (Have bs ∷ ss) = ap (λ (xs : List ℕ). bs ++ xs) (joined-more i ss) ∙ sym (append_assoc bs (joined i ss) (held (get_or ss i Missing)))
 
-held-is : (c : ℕ) (xs : List ℕ) → held (slot_of c xs) ≡ take (c - 1) xs
-held-is zero xs = refl
-held-is (suc c) xs = let q : c ≡ suc c - 1 = omega arith in ap (λ (k : ℕ). take k xs) q
+-- the bytes that are read of a slot, none if it is empty
+pub held-bytes :
+    (s : Slot) (o : Option (Bor (List ℕ))) (r d : Bor (List ℕ)) → MatchOption o (s ≡ Missing) (λ b. s ≡ Have b.now) → d.now ≡ [] → r ≡ unwrap_or o d →
+    held s ≡ r.now
+held-bytes s None r d e n q = ap held e ∙ sym (ap (λ (b : Bor (List ℕ)). b.now) q ∙ n)
+held-bytes s (Some b) r d e n q = ap held e ∙ sym (ap (λ (b : Bor (List ℕ)). b.now) q)
 
-pub joined-slot : (i : ℕ) (m : List ℕ) → i < 1000 → joined (i + 1) (slots_of m) ≡ joined i (slots_of m) ++ bytes_in m i
-joined-slot i m h =
-    let q : i + 1 ≡ suc i = omega arith in
-    ap (λ (k : ℕ). joined k (slots_of m)) q ∙ joined-more i (slots_of m) ∙
-    ap (λ (xs : List ℕ). joined i (slots_of m) ++ xs) (ap held (slots_at m i h) ∙ held-is (get_or m (215 * i) 0) (take 214 (drop (215 * i + 1) m)))
-
--- the bytes of a slot that still have room, as a stretch of the memory
-pub slot-stretch :
-    (m : List ℕ) (i r n : ℕ) → n ≡ min (min (get_or m (215 * i) 0 - 1) 214) r → take (215 * i + 1 + n - (215 * i + 1)) (drop (215 * i + 1) m) ≡ take r (bytes_in m i)
-slot-stretch m i r n e =
-    let q : 215 * i + 1 + n - (215 * i + 1) ≡ min r (min (get_or m (215 * i) 0 - 1) 214) = omega arith in
-    ap (λ (k : ℕ). take k (drop (215 * i + 1) m)) q ∙ sym (take_min r (min (get_or m (215 * i) 0 - 1) 214) (drop (215 * i + 1) m)) ∙
-    ap (λ (xs : List ℕ). take r xs) (sym (take_min (get_or m (215 * i) 0 - 1) 214 (drop (215 * i + 1) m)))
+-- one slot more
+pub joined-slot :
+    (i n : ℕ) (cs : List (List ℕ)) (ss : List Slot) (bs : List ℕ) → i < length (take n cs) → map slot_read cs ≡ ss → held (slot_read (get_or (take n cs) i [])) ≡ bs →
+    joined (i + 1) ss ≡ joined i ss ++ bs
+joined-slot i n cs ss bs h e q =
+    let l = length-take n cs in
+    let k : i + 1 ≡ suc i = omega arith in
+    ap (λ (j : ℕ). joined j ss) k ∙ joined-more i ss ∙
+    ap (λ (s : Slot). joined i ss ++ held s)
+    (ap (λ (us : List Slot). get_or us i Missing) (sym e) ∙ get_or-map slot_read cs i [] Missing (omega arith) ∙ ap slot_read (sym (get_or-take n cs i [] (omega arith)))) ∙
+    ap (λ (xs : List ℕ). joined i ss ++ xs) q
 
 -- ---- a front taken of two lists
 pub take-both : (n : ℕ) (xs ys : List ℕ) → take n (xs ++ ys) ≡ take n xs ++ take (n - length xs) ys

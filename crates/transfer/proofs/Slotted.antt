@@ -1,9 +1,13 @@
 -- Memory as slots: what a write of a part and what clearing does to them. Assumes nothing.
-use Rattle.std.proofs.Common.{◌≡◌, ℕ, zero, suc, ◌+◌, ◌-◌, ◌*◌, ◌<◌, ◌≤◌, Bool, true, false, cond, eqb, ◌⊎◌, List, ◌∷◌, ◌++◌, length, get_or, take, drop, set, sym, refl, ap, ◌∙◌, inl, inr, arith, length-set, length-take-le, get_or-set_other, get_or-set_same, take-take, take_at, drop-set-lt, ext_get_or, drop_at}
-use Rattle.std.proofs.lemmas.Bool.{cases_eq, cases_lt, cases_order, ne_eqb}
+use Rattle.std.proofs.Common.{subst, ◌≡◌, ℕ, zero, suc, ◌+◌, ◌*◌, ◌<◌, ◌≤◌, Bool, true, false, cond, ltb, not, ◌&&◌, Option, Some, None, count_by, position, [], ◌⊎◌, List, ◌∷◌, ◌++◌, length, get_or, map, take, drop, set, sym, refl, ap, ◌∙◌, inl, inr, arith, length-set, length-take-le, get_or-set_other, get_or-set_same, take-take, take_at, drop-set-lt, ext_get_or, drop_at, get_or-take, get_or-drop, drop-drop}
+use Rattle.std.proofs.lemmas.Bool.{cases_eq, cases_lt, cases_order, cond-true, cond-false, and_from, and_left, and_right, lt-ltb, le-ltb, ltb-true, ltb-false, cond_both}
+use Rattle.std.specs.Simd.{first_chunks}
+use Rattle.std.specs.List.{position_or_len}
+use Rattle.std.proofs.lemmas.List.Sums.{prefix_len-le-length}
+use Rattle.std.proofs.lemmas.List.Recursion.{is_count_by}
+use Rattle.std.proofs.lemmas.List.{drop-take}
 use Rattle.transfer_theory.specs.Receiver.{Slot, Missing, Have, missing, empty_of, first_missing}
-use Rattle.transfer_theory.proofs.Slots.{first-gap, first-unique}
-use Rattle.transfer.specs.Memory.{slot_of, slot_in, slots_from, slots_of, overwritten, filled}
+use Rattle.transfer.specs.Memory.{slot_of, slot_read, free, slot_in, slots_from, slots_of, overwritten, filled, with_part, IsGap}
 use Rattle.transfer.proofs.Places.{stretch-same, length-overwritten, over-before, over-behind}
 
 pub length-slots : (i n : ℕ) (m : List ℕ) → length (slots_from i n m) ≡ n
@@ -45,6 +49,25 @@ slots-missing i (suc n) m h =
 
 pub cleared : (m : List ℕ) → ((k : ℕ) → k < 1000 → get_or m (215 * k) 0 ≡ 0) → slots_of m ≡ missing 1000
 cleared m h = slots-missing 0 1000 m (λ k l. h k (omega arith))
+
+-- ---- the slots, each in its own bytes
+read-at : (a : ℕ) (m : List ℕ) → slot_read (take 215 (drop a m)) ≡ slot_of (get_or m a 0) (take 214 (drop (a + 1) m))
+read-at a m =
+    let q : a + 0 ≡ a = omega arith in
+    ap (λ (c : ℕ). slot_of c (drop 1 (take 215 (drop a m)))) (get_or-take 215 (drop a m) 0 0 (omega arith) ∙ get_or-drop a m 0 0 ∙ ap (λ (j : ℕ). get_or m j 0) q) ∙
+    ap (λ (xs : List ℕ). slot_of (get_or m a 0) xs) (drop-take 1 214 (drop a m) ∙ ap (λ (xs : List ℕ). take 214 xs) (drop-drop 1 a m))
+
+pub read_from : (i n : ℕ) (m : List ℕ) → map slot_read (first_chunks 215 n (drop (215 * i) m)) ≡ slots_from i n m
+unfolding slots_from
+read_from i zero m = refl
+read_from i (suc n) m =
+    let q : 215 * i + 215 ≡ 215 * (i + 1) = omega arith in
+    ap (λ (s : Slot). s ∷ map slot_read (first_chunks 215 n (drop 215 (drop (215 * i) m)))) (read-at (215 * i) m) ∙
+    ap (λ (ss : List Slot). slot_in m i ∷ ss)
+    (ap (λ (xs : List ℕ). map slot_read (first_chunks 215 n xs)) (drop-drop 215 (215 * i) m ∙ ap (λ (j : ℕ). drop j m) q) ∙ read_from (i + 1) n m)
+
+pub read_all : (n : ℕ) (m : List ℕ) → n ≡ 1000 → map slot_read (first_chunks 215 n m) ≡ slots_of m
+read_all n m h = ap (λ (k : ℕ). map slot_read (first_chunks 215 k m)) h ∙ read_from 0 1000 m
 
 -- ---- a part written: the body first, the count byte last
 filled-slot : (c : ℕ) (bs xs : List ℕ) → c ≡ length bs + 1 → take (length bs) xs ≡ bs → slot_of c xs ≡ Have bs
@@ -110,30 +133,54 @@ kept i bs m h l e = ext_get_or Missing (slots_of u) (set (slots_of m) i (Have bs
         go b (inr n) =
             slots_at u k b ∙ same-slot u m k (u-long ∙ sym e) (λ j x y. far k j n x y) ∙ sym (get_or-set_other (slots_of m) i k (Have bs) Missing n ∙ slots_at m k b)
 
--- ---- the first slot with a count of 0
-pub gap-found :
-    (m : List ℕ) (n g : ℕ) → n ≤ 1000 → g ≤ n → ((k : ℕ) → k < g → get_or m (215 * k) 0 ≡ 0 → ⊥) → (g < n → get_or m (215 * g) 0 ≡ 0) →
-    g ≡ first_missing 0 n (slots_of m)
-gap-found m n g b w before here =
-    first-unique n (slots_of m) g (first_missing 0 n (slots_of m))
-    (record { within = w; before = λ k l. is-full m k (omega arith) (before k l); here = λ l. is-empty m g (omega arith) (here l) })
-    (first-gap n (slots_of m))
+-- a part that is new fills its slot
+pub part_new :
+    (m bs : List ℕ) (ss : List Slot) (i n : ℕ) → i < 1000 → get_or m (215 * i) 0 ≡ 0 → slots_of m ≡ ss → i ≡ n →
+    set (slots_of m) i (Have bs) ≡ with_part n bs ss
+part_new m bs ss i n h o e q =
+    sym (cond-true (ltb i 1000 && empty_of (get_or (slots_of m) i Missing)) (set (slots_of m) i (Have bs)) (slots_of m)
+    (and_from (ltb i 1000) (empty_of (get_or (slots_of m) i Missing)) (lt-ltb i 1000 h) (is-empty m i h o))) ∙
+    ap (λ (us : List Slot). with_part i bs us) e ∙ ap (λ (j : ℕ). with_part j bs ss) q
 
--- ---- how many slots are filled
-slot_counts : (c : ℕ) (bs : List ℕ) → ◌≡◌ {A = ℕ} (cond (eqb c 0) 0 1) (cond (empty_of (slot_of c bs)) 0 1)
-slot_counts zero bs = refl
-slot_counts (suc c) bs = ap (λ (b : Bool). cond {A = ℕ} b 0 1) (ne_eqb (suc c) 0 (λ e. omega arith))
+-- one that is not, or has no slot, changes nothing
+pub part_known : (m bs : List ℕ) (ss : List Slot) (i n : ℕ) → i < 1000 → (get_or m (215 * i) 0 ≡ 0 → ⊥) → slots_of m ≡ ss → i ≡ n → ss ≡ with_part n bs ss
+part_known m bs ss i n h o e q =
+    sym (cond-false (ltb n 1000 && empty_of (get_or ss n Missing)) (set ss n (Have bs)) ss
+    (and_right (ltb n 1000) (empty_of (get_or ss n Missing))
+    (ap (λ (us : List Slot). empty_of (get_or us n Missing)) (sym e) ∙ ap (λ (j : ℕ). empty_of (get_or (slots_of m) j Missing)) (sym q) ∙ is-full m i h o)))
 
--- one slot more
-pub filled_more :
-    (m : List ℕ) (i n : ℕ) → i < 1000 → n ≡ cond (eqb (get_or m (215 * i) 0) 0) 0 1 →
-    filled (slots_from i (1000 - i) m) ≡ n + filled (slots_from (i + 1) (1000 - (i + 1)) m)
-unfolding slots_from filled
-filled_more m i n h e =
-    let k : 1000 - i ≡ suc (1000 - (i + 1)) = omega arith in
-    ap (λ (j : ℕ). filled (slots_from i j m)) k ∙
-    ap (λ (j : ℕ). j + filled (slots_from (i + 1) (1000 - (i + 1)) m)) (sym (e ∙ slot_counts (get_or m (215 * i) 0) (take 214 (drop (215 * i + 1) m))))
+pub part_past : (bs : List ℕ) (ss : List Slot) (i n : ℕ) → 1000 ≤ i → i ≡ n → ss ≡ with_part n bs ss
+part_past bs ss i n h q =
+    sym (cond-false (ltb n 1000 && empty_of (get_or ss n Missing)) (set ss n (Have bs)) ss
+    (and_left (ltb n 1000) (empty_of (get_or ss n Missing)) (le-ltb n 1000 (omega arith))))
 
-pub filled-all : (m : List ℕ) (i : ℕ) → 1000 ≤ i → filled (slots_from i (1000 - i) m) ≡ 0
-unfolding slots_from filled
-filled-all m i h = let k : 1000 - i ≡ 0 = omega arith in ap (λ (j : ℕ). filled (slots_from i j m)) k
+-- ---- the first of some slots that is empty, and how many are filled
+pub first-is : (i n : ℕ) (cs : List (List ℕ)) → n ≤ length cs → first_missing i n (map slot_read cs) ≡ i + position_or_len free (take n cs)
+unfolding first_missing
+first-is i zero cs h = omega arith
+first-is i (suc n) [] h = let z : ⊥ = omega arith in absurd z
+first-is i (suc n) (c ∷ cs) h = go (free c) (first-is (i + 1) n cs (omega arith))
+  where
+    go : (b : Bool) → first_missing (i + 1) n (map slot_read cs) ≡ i + 1 + position_or_len free (take n cs) →
+        cond b i (first_missing (i + 1) n (map slot_read cs)) ≡ i + cond (not b) (1 + position_or_len free (take n cs)) 0
+    go true e = omega arith
+    go false e = omega arith
+
+gap-at : (n k m : ℕ) (ss : List Slot) → m ≡ n → first_missing 0 n ss ≡ k → k ≤ m → IsGap (cond (ltb k m) (Some k) None) n ss
+gap-at n k m ss e f w =
+    cond_both (ltb k m) (Some k) None (λ (o : Option ℕ). IsGap o n ss) (λ t. ((let l = ltb-true k m t in omega arith), f)) (λ t. let l = ltb-false k m t in omega arith)
+
+pub gap_is :
+    (r : Option ℕ) (n : ℕ) (cs : List (List ℕ)) (ss : List Slot) → r ≡ position free (take n cs) → n ≤ length cs → map slot_read cs ≡ ss → IsGap r n ss
+gap_is r n cs ss e h q =
+    subst (λ (o : Option ℕ). IsGap o n ss) (sym e)
+    (gap-at n (position_or_len free (take n cs)) (length (take n cs)) ss (length-take-le n cs h)
+    (ap (λ (us : List Slot). first_missing 0 n us) (sym q) ∙ first-is 0 n cs h ∙ omega arith) (prefix_len-le-length (λ (c : List ℕ). not (free c)) (take n cs)))
+
+pub filled_is : (cs : List (List ℕ)) → filled (map slot_read cs) ≡ count_by (λ (c : List ℕ). not (free c)) cs
+unfolding filled
+filled_is cs = is_count_by (λ (us : List (List ℕ)). filled (map slot_read us)) (λ (c : List ℕ). not (free c)) refl (λ c us. go (free c) (filled (map slot_read us))) cs
+  where
+    go : (b : Bool) (n : ℕ) → cond b 0 1 + n ≡ cond (not b) (1 + n) n
+    go true n = omega arith
+    go false n = omega arith

@@ -1,5 +1,4 @@
 pub mod Messages
 pub mod Memory
-pub mod Lines
 pub mod Stations
-pub mod Driving
+pub mod Heeding

@@ -1,12 +1,12 @@
--- The real station as the receiver that it is, and what it needs of what it holds. Assumes nothing.
-use Rattle.std.specs.Prelude.{◌≡◌, ◌≤◌, length}
-use Rattle.transfer_theory.specs.Receiver.{Receiver, receiver_of}
-use Rattle.transfer.specs.declared.station.Ground.{Ground}
-use Rattle.transfer.specs.Memory.{slots_of}
+-- The numbers of a station: a receiver's size and the count published for a file handed over. Assumes nothing.
+use Rattle.std.specs.Prelude.{ℕ, ◌+◌, Some, None, Option}
 
-abbrev pub receiver_in : Ground → Receiver
-receiver_in g = receiver_of g.file (slots_of g.memory.now) g.size
+-- of the length that was heard: 0 while none was, else one more than it
+abbrev pub size_of : Option ℕ → ℕ
+size_of None = 0
+size_of (Some n) = n + 1
 
--- its memory has the right length, and no length that it heard is above 214,000
-abbrev pub Sound : Ground → Type 0
-Sound g = (length g.memory.now ≡ 215000) × (g.size ≤ 214001)
+-- of what was handed over: 0 for nothing, else so many bytes
+abbrev pub count_of : Option ℕ → ℕ
+count_of None = 0
+count_of (Some n) = n

@@ -1,8 +1,8 @@
-// Payloads: read into an enum that holds parts of the bytes, and built by one function.
-ghost use Rattle.std.specs.Prelude.{◌≡◌, ◌/◌, ◌%◌, ◌≤◌, ◌∷◌, length};
+// Payloads: read into an enum that holds parts of the bytes, and written from it.
+ghost use Rattle.std.specs.Prelude.{◌≡◌, ◌+◌, ◌/◌, ◌%◌, ◌≤◌, ◌∷◌, length, IfSome};
 ghost use Rattle.bits.specs.Lists.{zeros};
 ghost use Rattle.transfer_theory.specs.Payload.{payload};
-ghost use Rattle.transfer.specs.Messages.{Means};
+ghost use Rattle.transfer.specs.Messages.{Means, Short, Fits, saying};
 
 // The bytes of a payload, of its head, and of a part.
 pub const PAYLOAD: usize = 221;
@@ -11,8 +11,8 @@ pub const HEAD: usize = 7;
 
 pub const PART: usize = 214;
 
-// What a payload says. Other: none of the four kinds.
-#[derive(Clone, Copy)]
+// What a payload says. A part's body is any slice, since whoever makes a message may give one; that a payload holds no more than 214 bytes is asked where it is written.
+#[derive(Clone, Copy, PartialEq, Eq, Debug)]
 pub enum Message<'a> {
     Part {
         file: u8,
@@ -30,54 +30,77 @@ pub enum Message<'a> {
     Done {
         file: u8,
     },
-    Other,
 }
 
-// Reads a payload.
-pub fn read<'a>(payload: &'a [u8; 221]) -> Message<'a>
-    ensures { Means payload.now result }
+// Reads a payload; one of no known kind says nothing.
+pub fn read(payload: &[u8; PAYLOAD]) -> Option<Message<'_>>
+    ensures meant { Means payload.now result }
+    ensures short { IfSome result Short }
 {
-    let bytes: &'a [u8] = payload;
+    let bytes: &[u8] = payload;
     let [kind, file, high, low, count, _, _, b0, b1, b2, b3, ..] = bytes else {
-        return Message::Other;
+        return None;
     };
-    let number = u16::from(*high) * 256 + u16::from(*low);
+    let file = *file;
+    let number = u16::from_be_bytes([*high, *low]);
     match *kind {
-        1 => Message::Part {
-            file: *file,
-            number,
-            body: &bytes[7..7 + usize::from(*count).min(214)],
-        },
-        2 => Message::End {
-            file: *file,
-            length: u32::from_be_bytes([*b0, *b1, *b2, *b3]),
-        },
-        3 => Message::Ask {
-            file: *file,
-            number,
-        },
-        4 => Message::Done { file: *file },
-        _ => Message::Other,
+        1 => {
+            let count = usize::from(*count).min(PART);
+            let body = &bytes[HEAD..HEAD + count];
+            Some(Message::Part { file, number, body })
+        }
+        2 => {
+            let length = u32::from_be_bytes([*b0, *b1, *b2, *b3]);
+            Some(Message::End { file, length })
+        }
+        3 => Some(Message::Ask { file, number }),
+        4 => Some(Message::Done { file }),
+        _ => None,
     }
 }
 
-// The head of a payload, and zeros behind it.
-fn write_head(out: &mut [u8; 221], kind: u8, file: u8, number: u16, count: u8)
-    ensures { out.new ≡ kind ∷ file ∷ number / 256 ∷ number % 256 ∷ count ∷ 0 ∷ 0 ∷ zeros 214 }
+impl Message<'_> {
+    // The payload that says it.
+    pub(crate) fn payload(self) -> [u8; PAYLOAD]
+        requires { Fits self }
+        ensures { result ≡ saying self.entry }
+    {
+        match self {
+            Message::Part { file, number, body } => build(1, file, number, body),
+            Message::End { file, length } => {
+                build(2, file, parts_of(length), &length.to_be_bytes())
+            }
+            Message::Ask { file, number } => build(3, file, number, &[]),
+            Message::Done { file } => build(4, file, 0, &[]),
+        }
+    }
+}
+
+// How many parts a file of so many bytes has.
+pub(crate) fn parts_of(length: u32) -> u16
+    requires { length ≤ 214000 }
+    ensures { result ≡ (length + 213) / 214 }
 {
-    *out = [0; 221];
-    out[0] = kind;
-    out[1] = file;
-    out[2] = (number / 256) as u8;
-    out[3] = (number % 256) as u8;
-    out[4] = count;
+    length.div_ceil(PART as u32) as u16
+}
+
+// The head of a payload, and zeros behind it.
+fn head(kind: u8, file: u8, number: u16, count: u8) -> [u8; PAYLOAD]
+    ensures { result ≡ kind ∷ file ∷ number / 256 ∷ number % 256 ∷ count ∷ 0 ∷ 0 ∷ zeros 214 }
+{
+    let [high, low] = number.to_be_bytes();
+    let mut out = [0; PAYLOAD];
+    out[..5].copy_from_slice(&[kind, file, high, low, count]);
+    out
 }
 
 // The one builder of payloads: head, body, zeros.
-pub(crate) fn build(out: &mut [u8; 221], kind: u8, file: u8, number: u16, body: &[u8])
+#[tactic(auto, using(crate::proofs::Bytes::payload_written))]
+fn build(kind: u8, file: u8, number: u16, body: &[u8]) -> [u8; PAYLOAD]
     requires { length body.now ≤ 214 }
-    ensures { out.new ≡ payload kind file number body.now }
+    ensures { result ≡ payload kind file number body.now }
 {
-    write_head(out, kind, file, number, body.len() as u8);
-    out[7..7 + body.len()].copy_from_slice(body);
+    let mut out = head(kind, file, number, body.len() as u8);
+    out[HEAD..HEAD + body.len()].copy_from_slice(body);
+    out
 }

@@ -1,13 +1,16 @@
 // The real ship: it owns room for the longest file from its making, so that a file is begun without asking for memory.
-ghost use Rattle.std.specs.Prelude.{◌≡◌, ◌+◌, ◌/◌, ◌<◌, ◌≤◌, false, [], length, IfOk, vec_len, vec_capacity, MatchResult};
+ghost use Rattle.std.specs.Prelude.{◌≡◌, ◌<◌, ◌≤◌, [], length, IfOk, IfSome, MatchResult, MatchOption};
 ghost use Rattle.bits.specs.Refusals.{number as code};
-ghost use Rattle.transfer_theory.specs.Parts.{part_payload, end_payload};
-ghost use Rattle.transfer_theory.specs.Sender.{Sender, sender_at, new_sender};
+ghost use Rattle.transfer_theory.specs.Parts.{parts, part};
+ghost use Rattle.transfer_theory.specs.Sender.{new_sender, says};
+ghost use Rattle.transfer.specs.Messages.{Fits, saying};
+ghost use Rattle.transfer.specs.Heeding.{heeds};
 
-use crate::message::{Message, build, read};
+use crate::message::{Message, PART, PAYLOAD, parts_of, read};
 use crate::sides::Ship;
 use bits::Refusal;
 use std::alloc::{AllocError, Global};
+use std::marker::Model;
 
 // The most bytes that a file has.
 pub const LONGEST: usize = 214000;
@@ -17,15 +20,26 @@ pub const LONGEST: usize = 214000;
 pub struct Vessel {
     file: u8,
     content: Vec<u8>,
-    place: usize,
+    place: u16,
     done: bool,
-    ghost room: { (214000 ≤ vec_capacity content) × (vec_len content ≤ 214000) × (place ≤ (vec_len content + 213) / 214) },
+}
+
+// A clause sees the sender that it is.
+impl Model for Vessel {
+    ghost use Rattle.std.specs.Prelude.{◌+◌, ◌/◌, ◌≤◌, vec_len, vec_capacity};
+    ghost use Rattle.transfer_theory.specs.Sender.{Sender, sender_at};
+
+    ghost Value = { Sender };
+
+    ghost view = { λ v. sender_at v.file v.content.items v.place v.done };
+
+    ghost invariant = { λ v. (214000 ≤ vec_capacity v.content) × (vec_len v.content ≤ 214000) × (v.place ≤ (vec_len v.content + 213) / 214) };
 }
 
 impl Vessel {
     // A ship with an empty file of number 0; it fails only for want of memory.
     pub fn new(heap: Global) -> Result<Vessel, AllocError>
-        ensures { IfOk result (λ s. sender_at s.file s.content.items s.place s.done ≡ new_sender 0 []) }
+        ensures { IfOk result (λ s. s ≡ new_sender 0 []) }
     {
         let content = Vec::with_capacity(heap, LONGEST)?;
         Ok(Vessel {
@@ -36,16 +50,9 @@ impl Vessel {
         })
     }
 
-    // How many parts the file has.
-    fn parts(&self) -> usize
-        ensures { result ≡ (vec_len self.now.content + 213) / 214 }
-    {
-        (self.content.len() + 213) / 214
-    }
-
     // Copies the file; one of more than 214,000 bytes is refused, and nothing is changed.
     pub fn load(&mut self, number: u8, content: &[u8]) -> Result<(), Refusal>
-        ensures { MatchResult result (λ _. (length content.now ≤ 214000) × (sender_at self.new.file self.new.content.items self.new.place self.new.done ≡ new_sender number content.now)) (λ e. (code e ≡ 3) × (214000 < length content.now) × (self.new ≡ self.old)) }
+        ensures { MatchResult result (λ _. (length content.now ≤ 214000) × (self.new ≡ new_sender number content.now)) (λ e. (code e ≡ 3) × (214000 < length content.now) × (self.new ≡ self.old)) }
     {
         if content.len() > LONGEST {
             return Err(Refusal::TooLong);
@@ -58,69 +65,74 @@ impl Vessel {
         Ok(())
     }
 
-    // The part at its place.
-    fn say_part(&self, out: &mut [u8; 221])
-        requires { self.now.place < (vec_len self.now.content + 213) / 214 }
-        ensures { out.new ≡ part_payload self.now.file self.now.content.items self.now.place }
+    // How many parts the file has.
+    fn parts(&self) -> u16
+        ensures { result ≡ parts self.now.bytes }
     {
-        let from = 214 * self.place;
-        let to = (from + 214).min(self.content.len());
-        build(
-            out,
-            1,
-            self.file,
-            self.place as u16,
-            &self.content[from..to],
-        );
+        parts_of(self.content.len() as u32)
     }
 
-    // The end, with the file's length.
-    fn say_end(&self, out: &mut [u8; 221])
-        ensures { out.new ≡ end_payload self.now.file self.now.content.items }
+    // The part at its place, if that is not past the last.
+    fn part(&self) -> Option<&[u8]>
+        ensures short { IfSome result (λ b. length b.now ≤ 214) }
+        ensures value { MatchOption result (parts self.now.bytes ≤ self.now.place) (λ b. (self.now.place < parts self.now.bytes) × (b.now ≡ part self.now.bytes self.now.place)) }
     {
-        let length = self.content.len() as u32;
-        build(
-            out,
-            2,
-            self.file,
-            self.parts() as u16,
-            &length.to_be_bytes(),
-        );
+        self.content.chunks(PART).nth(usize::from(self.place))
+    }
+
+    // What it says next: the part at its place, or the end.
+    #[tactic(auto, unfolding(transfer_theory::specs::Sender::says))]
+    fn message(&self) -> Message<'_>
+        ensures said { saying result ≡ says self.now }
+        ensures fits { Fits result }
+    {
+        let file = self.file;
+        match self.part() {
+            Some(body) => Message::Part {
+                file,
+                number: self.place,
+                body,
+            },
+            None => Message::End {
+                file,
+                length: self.content.len() as u32,
+            },
+        }
+    }
+
+    // Goes to the part that it is asked for, or is done.
+    fn heed(&mut self, message: Message<'_>)
+        ensures { self.new ≡ heeds message.entry self.old }
+    {
+        match message {
+            Message::Ask { file, number } if file == self.file && number < self.parts() => {
+                self.place = number;
+            }
+            Message::Done { file } if file == self.file => self.done = true,
+            _ => {}
+        }
     }
 }
 
 impl Ship for Vessel {
-    ghost sender = { λ s. sender_at s.file s.content.items s.place s.done };
+    ghost sender = { λ s. s };
 
-    fn begin(&mut self, number: u8, content: &[u8]) -> u32 {
-        match self.load(number, content) {
-            Ok(()) => 0,
-            Err(refusal) => refusal.code(),
-        }
+    fn begin(&mut self, number: u8, content: &[u8]) -> Result<(), Refusal> {
+        self.load(number, content)
     }
 
-    fn next(&mut self, out: &mut [u8; 221]) {
+    #[tactic(auto, unfolding(transfer_theory::specs::Sender::after_saying))]
+    fn next(&mut self, out: &mut [u8; PAYLOAD]) {
+        *out = self.message().payload();
         if self.place < self.parts() {
-            self.say_part(out);
             self.place += 1;
-        } else {
-            self.say_end(out);
         }
     }
 
-    fn heard(&mut self, payload: &[u8; 221]) {
-        match read(payload) {
-            Message::Ask { file, number } => {
-                if file == self.file && usize::from(number) < self.parts() {
-                    self.place = usize::from(number);
-                }
-            }
-            Message::Done { file } => {
-                if file == self.file {
-                    self.done = true;
-                }
-            }
-            _ => {}
+    #[tactic(auto, using(crate::proofs::Heeding::heeds_told, crate::proofs::Heeding::not_told))]
+    fn heard(&mut self, payload: &[u8; PAYLOAD]) {
+        if let Some(message) = read(payload) {
+            self.heed(message);
         }
     }
 

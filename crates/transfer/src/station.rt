@@ -1,183 +1,162 @@
 // The real station: over lent memory of 215,000 bytes of any content, which it clears as it begins.
-ghost use Rattle.std.specs.Prelude.{◌≡◌, ◌+◌, ◌-◌, ◌/◌, ◌<◌, ◌≤◌, false, ◌++◌, length, drop, is_some, MatchResult, ◌≢◌};
+ghost use Rattle.std.specs.Prelude.{◌≡◌, ◌≤◌, true, ◌++◌, length, drop, is_some, is_ok, nat_lt, Err, IfSome, MatchResult, ◌≢◌};
+ghost use Rattle.bits.specs.declared.Refusal.TheVariants.{WrongMemory};
 ghost use Rattle.bits.specs.Refusals.{number as code};
-ghost use Rattle.transfer_theory.specs.Receiver.{new_receiver, missing, complete, handed};
+ghost use Rattle.transfer_theory.specs.Receiver.{new_receiver, missing, complete, handed, answers};
 ghost use Rattle.transfer.specs.Memory.{slots_of, filled};
-ghost use Rattle.transfer.specs.Stations.{receiver_in, Sound};
+ghost use Rattle.transfer.specs.Messages.{Short, Fits, saying};
+ghost use Rattle.transfer.specs.Heeding.{takes_in};
 
-use crate::memory::{SLOTS, clear, copy_out, count_filled, first_gap, keep_new};
-use crate::message::{Message, build, read};
+pub use crate::memory::MEMORY;
+use crate::memory::{Slots, clear};
+use crate::message::{Message, PAYLOAD, parts_of, read};
+use crate::ship::LONGEST;
 use crate::sides::Station;
 use bits::Refusal;
+use std::marker::Model;
 
-// The bytes of a station's memory.
-pub const MEMORY: usize = 215000;
-
-// Memory of another length than a station's is refused.
-fn fits(memory: &[u8]) -> Result<(), Refusal>
-    ensures { MatchResult result (λ _. length memory.now ≡ 215000) (λ e. (code e ≡ 4) × (length memory.now ≢ 215000)) }
-{
-    if memory.len() == MEMORY {
-        Ok(())
-    } else {
-        Err(Refusal::WrongMemory)
-    }
-}
-
-// size: 0 while no length was heard, else one more than it.
+// length: of the file, once it was heard.
 #[derive(Drop)]
 pub struct Ground<'a> {
     file: u8,
-    size: u32,
-    memory: &'a mut [u8],
+    length: Option<u32>,
+    slots: Slots<'a>,
 }
 
-// Leave to hand over: it can be neither copied nor let go, only a complete station gives it, and writing the file spends it.
+// A clause sees the receiver that it is; a length that was heard is at most 214,000.
+impl<'a> Model for Ground<'a> {
+    ghost use Rattle.std.specs.Prelude.{◌≤◌};
+    ghost use Rattle.transfer_theory.specs.Receiver.{Receiver, receiver_of};
+    ghost use Rattle.transfer.specs.Stations.{size_of};
+
+    ghost Value = { Receiver };
+
+    ghost view = { λ g. receiver_of g.file g.slots (size_of g.length) };
+
+    ghost invariant = { λ g. size_of g.length ≤ 214001 };
+}
+
+// Leave to hand over: it can be neither copied nor let go, only a complete station gives it, of the length that it heard, and writing the file spends it.
 pub struct Leave {
-    size: u32,
-    ghost given: { 0 < size },
+    length: u32,
 }
 
 impl<'a> Ground<'a> {
     // A station of which nothing was heard; memory of another length is refused.
     pub fn open(number: u8, memory: &'a mut [u8]) -> Result<Ground<'a>, Refusal>
-        ensures { MatchResult result (λ g. Sound g × (receiver_in g ≡ new_receiver number)) (λ e. (code e ≡ 4) × (length memory.old ≢ 215000)) }
+        ensures { MatchResult result (λ g. (length memory.old ≡ 215000) × (g ≡ new_receiver number)) (λ e. (code e ≡ 4) × (length memory.old ≢ 215000)) }
     {
-        fits(memory)?;
-        clear(memory);
+        let memory = memory.as_mut_array::<MEMORY>().ok_or(Refusal::WrongMemory)?;
         Ok(Ground {
             file: number,
-            size: 0,
-            memory,
+            length: None,
+            slots: Slots::new(memory),
         })
-    }
-
-    // From now on a file of this number: every slot is emptied, whatever the memory held.
-    fn restart(&mut self, number: u8)
-        requires { Sound self.old }
-        ensures sound { Sound self.new }
-        ensures begun { receiver_in self.new ≡ new_receiver number }
-        ensures lender { self.new.memory.ghost_name ≡ self.old.memory.ghost_name }
-    {
-        clear(self.memory);
-        self.file = number;
-        self.size = 0;
-    }
-
-    // How many parts a file of the length has that was heard.
-    fn wanted(&self) -> usize
-        ensures { result ≡ ((self.now.size - 1) + 213) / 214 }
-    {
-        (self.size.saturating_sub(1) as usize + 213) / 214
     }
 
     // How many parts are there.
     pub fn parts_there(&self) -> usize
-        requires { Sound self.now }
-        ensures { result ≡ filled (receiver_in self.now).slots }
+        ensures { result ≡ filled self.now.slots }
     {
-        count_filled(self.memory)
+        self.slots.filled()
     }
 
     // Leave to hand over, if and only if the station is complete.
     pub fn leave(&self) -> Option<Leave>
-        requires { Sound self.now }
-        ensures { is_some result ≡ complete (receiver_in self.now) }
+        ensures { is_some result ≡ complete self.now }
     {
-        if self.size == 0 {
-            return None;
-        }
-        let wanted = self.wanted();
-        if first_gap(self.memory, wanted) == wanted {
-            Some(Leave { size: self.size })
-        } else {
-            None
+        let length = self.length?;
+        match self.slots.gap(parts_of(length)) {
+            Some(_) => None,
+            None => Some(Leave { length }),
         }
     }
 
-    // Spends the leave: writes the file by the station's present state and says how many bytes it has; what lies behind them stays.
-    pub fn spend(&self, leave: Leave, out: &mut [u8; 214000]) -> u32
-        requires { Sound self.now }
-        ensures count { result ≡ length (handed (receiver_in self.now)) }
-        ensures written { out.new ≡ handed (receiver_in self.now) ++ drop result out.old }
+    // What it says: an ask for the first part that is missing, or that all is there; nothing before a length was heard.
+    #[tactic(auto, unfolding(transfer_theory::specs::Receiver::answers))]
+    fn reply(&self) -> Option<Message<'static>>
+        ensures there { is_some result ≡ nat_lt 0 self.now.size }
+        ensures said { IfSome result (λ m. saying m ≡ answers self.now) }
+        ensures fits { IfSome result Fits }
     {
-        let Leave { size: _ } = leave;
-        let limit = self.size.saturating_sub(1) as usize;
-        copy_out(self.memory, self.wanted(), limit, out) as u32
-    }
-}
-
-impl<'a> Station for Ground<'a> {
-    ghost receiver = { receiver_in };
-
-    ghost sound = { Sound };
-
-    fn begin(&mut self, number: u8) {
-        self.restart(number);
+        let length = self.length?;
+        let file = self.file;
+        match self.slots.gap(parts_of(length)) {
+            Some(number) => Some(Message::Ask { file, number }),
+            None => Some(Message::Done { file }),
+        }
     }
 
-    fn heard(&mut self, payload: &[u8; 221]) {
-        match read(payload) {
-            Message::Part { file, number, body } => {
-                let slot = usize::from(number);
-                if file == self.file && slot < SLOTS {
-                    keep_new(self.memory, slot, body);
-                }
+    // Takes in a part, or the file's length.
+    fn heed(&mut self, message: Message<'_>)
+        requires { Short message }
+        ensures { self.new ≡ takes_in message.entry self.old }
+    {
+        match message {
+            Message::Part { file, number, body } if file == self.file => {
+                self.slots.keep(number, body);
             }
-            Message::End { file, length } => {
-                if file == self.file && length <= 214000 {
-                    self.size = length + 1;
-                }
+            Message::End { file, length } if file == self.file && length as usize <= LONGEST => {
+                self.length = Some(length);
             }
             _ => {}
         }
     }
 
-    fn answer(&self, out: &mut [u8; 221]) -> bool {
-        if self.size == 0 {
-            return false;
-        }
-        let wanted = self.wanted();
-        let gap = first_gap(self.memory, wanted);
-        if gap == wanted {
-            build(out, 4, self.file, 0, &[]);
-        } else {
-            build(out, 3, self.file, gap as u16, &[]);
-        }
-        true
-    }
-
-    fn complete(&self) -> bool {
-        if self.size == 0 {
-            return false;
-        }
-        let wanted = self.wanted();
-        first_gap(self.memory, wanted) == wanted
-    }
-
-    fn hand_over(&self, out: &mut [u8; 214000]) -> u32 {
-        match self.leave() {
-            Some(leave) => self.spend(leave, out),
-            None => 0,
-        }
+    // Spends the leave: writes the file by the station's present state and says how many bytes it has; what lies behind them stays.
+    pub fn spend(&self, leave: Leave, out: &mut [u8; LONGEST]) -> usize
+        ensures count { result ≡ length (handed self.now) }
+        ensures within { result ≤ 214000 }
+        ensures written { out.new ≡ handed self.now ++ drop result out.old }
+    {
+        let Leave { length: _ } = leave;
+        let length = self.length.unwrap_or(0);
+        self.slots
+            .copy_to(parts_of(length), &mut out[..length as usize])
     }
 }
 
-// Opens a station for callers that see numbers only: 0, and no slot of the memory has a part, whatever it held; or 4 for memory of another length, which stays as it was.
-pub fn station_opens(number: u8, memory: &mut [u8]) -> u32
-    ensures opened { length memory.old ≡ 215000 → (result ≡ 0) × (slots_of memory.new ≡ missing 1000) }
-    ensures refused { (length memory.old ≢ 215000) → (result ≡ 4) × (memory.new ≡ memory.old) }
-{
-    match fits(memory) {
-        Err(refusal) => refusal.code(),
-        Ok(()) => {
-            let mut station = Ground {
-                file: number,
-                size: 0,
-                memory,
-            };
-            station.restart(number);
-            0
+impl<'a> Station for Ground<'a> {
+    ghost receiver = { λ g. g };
+
+    fn begin(&mut self, number: u8) {
+        self.slots.clear();
+        self.file = number;
+        self.length = None;
+    }
+
+    #[tactic(auto, using(crate::proofs::Heeding::takes_heard, crate::proofs::Heeding::not_heard))]
+    fn heard(&mut self, payload: &[u8; PAYLOAD]) {
+        if let Some(message) = read(payload) {
+            self.heed(message);
         }
+    }
+
+    fn answer(&self) -> Option<[u8; PAYLOAD]> {
+        Some(self.reply()?.payload())
+    }
+
+    fn complete(&self) -> bool {
+        matches!(self.length, Some(length) if self.slots.gap(parts_of(length)).is_none())
+    }
+
+    fn hand_over(&self, out: &mut [u8; LONGEST]) -> Option<usize> {
+        let leave = self.leave()?;
+        Some(self.spend(leave, out))
+    }
+}
+
+// Opens a station for callers that keep none: no slot of the memory has a part, whatever it held. Memory of another length is refused and stays as it was
+// (of `open`, whose result borrows the memory, a contract cannot say so).
+pub fn station_opens(_number: u8, memory: &mut [u8]) -> Result<(), Refusal>
+    ensures opened { length memory.old ≡ 215000 → (is_ok result ≡ true) × (slots_of memory.new ≡ missing 1000) }
+    ensures refused { (length memory.old ≢ 215000) → (result ≡ Err WrongMemory) × (memory.new ≡ memory.old) }
+{
+    match memory.as_mut_array::<MEMORY>() {
+        Some(all) => {
+            clear(all);
+            Ok(())
+        }
+        None => Err(Refusal::WrongMemory),
     }
 }

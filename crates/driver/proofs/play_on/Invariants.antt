@@ -5,8 +5,8 @@ use Rattle.driver.proofs.play_on.Given as goal
 
 abbrev pub invariant-loop-ship : goal.invariant-loop-ship
 invariant-loop-ship g l =
-    g.G.Station.sound l.station × (l.initial.rounds ≤ l.budget → l.rounds ≤ l.budget) ×
-    PlayedOn g.L.TracedLine.forth g.L.TracedLine.back l.initial.line l.line (g.S.Ship.sender l.initial.ship) (g.S.Ship.sender l.ship)
+    (l.initial.rounds ≤ l.budget → l.rounds ≤ l.budget) ×
+    PlayedOn g.L.Line.forth g.L.Line.back l.initial.line l.line (g.S.Ship.sender l.initial.ship) (g.S.Ship.sender l.ship)
     (g.G.Station.receiver l.initial.station) (g.G.Station.receiver l.station) l.initial.rounds l.initial.complete l.rounds l.complete
 
 abbrev pub decreases-loop-ship : goal.decreases-loop-ship
