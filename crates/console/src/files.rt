@@ -4,10 +4,11 @@ use std::io::{Read, Write};
 use std::{fs, io, process};
 
 // The bytes of a file, but no more than `most` and one: who gets more than `most` knows that the file is longer.
-pub fn read_file(rt: &HostRuntime, path: &str, most: u32) -> io::Result<Vec<u8>> {
+pub fn read_file(rt: &HostRuntime, path: &str, most: usize) -> io::Result<Vec<u8>> {
     let mut bytes = Vec::new(rt.alloc());
     let file = File::open(rt, path)?;
-    file.take(u64::from(most) + 1).read_to_end(&mut bytes)?;
+    let one_more = (most as u64).saturating_add(1);
+    file.take(one_more).read_to_end(&mut bytes)?;
     Ok(bytes)
 }
 

@@ -152,6 +152,6 @@ station-lines :
     StationTranscript n lines others other → (outs ≡ others) × (file ≡ other)
 station-lines n lines outs others file other p q = station-once lines (new_receiver n) None outs others file other p q
 
-pub ends-right : EndsRight
-ends-right =
+pub ends_right : EndsRight
+ends_right =
     record { one_thing = one-thing; ship = ship-turn; station = station-turn; ship_lines = ship-lines; station_lines = station-lines; writes = writes; in_time = in-time }

@@ -1,17 +1,12 @@
 -- One turn of each end, from a line read to a line printed. Assumes nothing.
-use Rattle.std.specs.Prelude.{◌≡◌, ℕ, Bool, cond, not, ◌&&◌, List, [], Ok, Err, vec_items, Result, nat_lt}
+use Rattle.std.specs.Prelude.{◌≡◌, ℕ, Bool, cond, not, ◌&&◌, List, [], Ok, Err, Result, nat_lt}
 use Rattle.bits.specs.declared.Refusal.{Refusal}
 use Rattle.bits.specs.Heard.{Heard}
 use Rattle.frame_theory.specs.Frame.{frame}
-use Rattle.transfer_theory.specs.Sender.{Sender, sender_at, says, after_saying, told}
+use Rattle.transfer_theory.specs.Sender.{Sender, says, after_saying, told}
 use Rattle.transfer_theory.specs.Receiver.{Receiver, hears, answers, complete}
-use Rattle.link.specs.declared.ends.TheLink.{TheLink}
 use Rattle.text.specs.Lines.{digits}
 use Rattle.ends.specs.Hearing.{HeardIn, Refused}
-
--- the sender that a ship is
-abbrev pub sender_in : TheLink → Sender
-sender_in l = sender_at l.vessel.file (vec_items l.vessel.content) l.vessel.place l.vessel.done
 
 -- the line of the frame that a sender says next
 abbrev pub says_line : Sender → List ℕ

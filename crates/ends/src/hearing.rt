@@ -1,30 +1,29 @@
-// What is heard in a line of text.
-ghost use Rattle.text.specs.Input.{text_of};
-ghost use Rattle.ends.specs.Hearing.{BitsHeard, LineHeard, RefusalKeeps, thing};
+// What is heard in a line of text, and the line that says a payload.
+ghost use Rattle.std.specs.Prelude.{◌≡◌};
+ghost use Rattle.frame_theory.specs.Frame.{frame};
+ghost use Rattle.text.specs.Lines.{digits};
+ghost use Rattle.ends.specs.Hearing.{LineHeard};
 
 use bits::Refusal;
 use frame::Radio;
 use link::TheLink;
-use text::{FRAME, Form, Line, read_line};
+use text::{FRAME, Line, read_line};
 
-// Whether a payload is heard in the bits that a line says, and the payload.
-fn hear_bits(bits: &[u8; FRAME], payload: &mut [u8; 221]) -> bool
-    ensures { BitsHeard bits.now (thing result payload.new) }
+// The payload that is heard in a line, or nothing. A line that is neither empty nor a frame is refused.
+pub(crate) fn hear_line(line: &Line) -> Result<Option<[u8; 221]>, Refusal>
+    ensures { LineHeard line.now result }
 {
-    match <TheLink as Radio>::hear(bits, payload) {
-        1 => true,
-        _ => false,
+    match read_line::<FRAME>(line.text())? {
+        None => Ok(None),
+        Some(bits) => <TheLink as Radio>::hear(&bits),
     }
 }
 
-// Whether a payload is heard in a line, and the payload. A line that is neither empty nor a frame is refused, and the payload's memory stays as it was.
-pub(crate) fn hear_line(line: &Line, payload: &mut [u8; 221]) -> Result<bool, Refusal>
-    ensures line_heard { LineHeard (text_of line.now) payload.new result }
-    ensures kept { RefusalKeeps payload.old payload.new result }
+// Writes the frame of a payload, in the place of what the line held.
+pub(crate) fn say_line(payload: &[u8; 221], line: &mut Line)
+    ensures { line.new ≡ digits (frame payload.now) }
 {
     let mut bits = [0; FRAME];
-    match read_line(line.text(), &mut bits)? {
-        Form::Silence => Ok(false),
-        Form::Frame => Ok(hear_bits(&bits, payload)),
-    }
+    <TheLink as Radio>::send(payload, &mut bits);
+    line.write(&bits);
 }

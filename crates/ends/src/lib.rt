@@ -11,6 +11,7 @@ pub use ship::{ship_first, ship_turn};
 pub use station::{hand_over, leave_once, station_answers, station_hears};
 
 // The laws of turns and transcripts, named in a contract so that the checker asks for their proofs.
+#[tactic(auto, using(crate::proofs::Once::ends_right))]
 pub fn ends_stand() -> u8
     ensures { EndsRight }
 {

@@ -1,21 +1,33 @@
 // The real ends under the names that programs use: the radio and the ship in one value.
 ghost use Rattle.std.specs.Prelude.{◌≡◌, [], IfOk};
-ghost use Rattle.transfer_theory.specs.Sender.{sender_at, new_sender};
+ghost use Rattle.transfer_theory.specs.Sender.{new_sender};
 
-use frame::{Codec, Radio};
+use bits::Refusal;
+use frame::Radio;
 use std::alloc::{AllocError, Global};
+use std::marker::Model;
 use transfer::ship::Vessel;
 use transfer::sides::Ship;
 
+// The radio needs no state; of the ship it is the whole, so that its calls are handed on.
 #[derive(Drop)]
 pub struct TheLink {
     pub vessel: Vessel,
 }
 
+// A clause sees the sender that it is.
+impl Model for TheLink {
+    ghost use Rattle.transfer_theory.specs.Sender.{Sender};
+
+    ghost Value = { Sender };
+
+    ghost view = { λ l. l.vessel };
+}
+
 impl TheLink {
     // A ship with an empty file of number 0; it fails only for want of memory.
     pub fn new(heap: Global) -> Result<TheLink, AllocError>
-        ensures { IfOk result (λ l. sender_at l.vessel.file l.vessel.content.items l.vessel.place l.vessel.done ≡ new_sender 0 []) }
+        ensures { IfOk result (λ l. l ≡ new_sender 0 []) }
     {
         Ok(TheLink {
             vessel: Vessel::new(heap)?,
@@ -25,18 +37,18 @@ impl TheLink {
 
 impl Radio for TheLink {
     fn send(payload: &[u8; 221], out: &mut [u8; 4092]) {
-        <Codec as Radio>::send(payload, out);
+        frame::send(payload, out);
     }
 
-    fn hear(bits: &[u8], out: &mut [u8; 221]) -> u32 {
-        <Codec as Radio>::hear(bits, out)
+    fn hear(bits: &[u8]) -> Result<Option<[u8; 221]>, Refusal> {
+        frame::hear(bits)
     }
 }
 
 impl Ship for TheLink {
-    ghost sender = { λ s. sender_at s.vessel.file s.vessel.content.items s.vessel.place s.vessel.done };
+    ghost sender = { λ s. s };
 
-    fn begin(&mut self, number: u8, content: &[u8]) -> u32 {
+    fn begin(&mut self, number: u8, content: &[u8]) -> Result<(), Refusal> {
         self.vessel.begin(number, content)
     }
 

@@ -1,17 +1,16 @@
 -- Frames with at most four bits wrong come through, so enough rounds of them end a rehearsal. Assumes nothing.
-use Rattle.std.proofs.Common.{◌≡◌, ℕ, ◌<◌, Bool, true, false, T, ltb, ◌⊎◌, List, [], ◌∷◌, ◌++◌, Option, sym, refl, ◌∙◌, subst, inl, inr}
-use Rattle.std.proofs.lemmas.Bool.{cases_Bool, cond-true, cond-false}
+use Rattle.std.proofs.Common.{◌≡◌, ℕ, ◌<◌, Bool, true, false, cond, T, ltb, List, [], ◌∷◌, ◌++◌, Option, sym, refl, ◌∙◌, subst}
 use Rattle.bits.specs.Heard.{Heard, Lost, Got}
 use Rattle.frame_theory.specs.Frame.{frame, Hears}
 use Rattle.transfer_theory.specs.Parts.{IsFile}
 use Rattle.transfer_theory.specs.Sender.{new_sender}
-use Rattle.transfer_theory.specs.Receiver.{Receiver, new_receiver, hears, answers, complete, handed}
+use Rattle.transfer_theory.specs.Receiver.{new_receiver, hears, answers, complete, handed}
 use Rattle.transfer_theory.specs.World.{Run, begins, start}
 use Rattle.transfer_theory.specs.Onward.{IsPayload}
-use Rattle.transfer_theory.proofs.Slots.{holds, is_true}
+use Rattle.transfer_theory.proofs.Slots.{is_true}
 use Rattle.transfer_theory.proofs.Following.{says-payloads}
-use Rattle.driver.specs.Log.{Exchange, replies, Spoken, sender_by, receiver_by, clean, world_by, Through, AllThrough}
-use Rattle.driver.specs.Played.{Reached}
+use Rattle.driver.specs.Log.{Exchange, Spoken, sender_by, receiver_by, clean, world_by, Through, AllThrough}
+use Rattle.driver.specs.Played.{Reached, Sayable}
 use Rattle.driver.proofs.Worlds.{log-run, rest-spoken}
 use Rattle.driver.proofs.InARow.{earlier-spoken, earlier-clean}
 use Rattle.link.proofs.Whole.{main}
@@ -21,11 +20,6 @@ use Rattle.rehearsal.specs.Rehearsed.{Table}
 use Rattle.rehearsal.specs.Laws.{Fine, FineRounds, EndsInTime, HandsOver, RehearsalRight}
 use Rattle.rehearsal.proofs.Arriving.{arrived-bits, arrived-long}
 use Rattle.rehearsal.proofs.Folded.{repeatable}
-
--- a payload or nothing
-abbrev Sayable : Heard → Type 0
-Sayable Lost = Unit {0}
-Sayable (Got p) = IsPayload p
 
 -- what arrives with at most four bits wrong is heard as what was said
 fine-heard : (p s : ℕ) (said h : Heard) → Sayable said → Crosses p s said h → Fine p s said → h ≡ said
@@ -48,12 +42,9 @@ fair-rest : (n : ℕ) (f : List ℕ) (x : Exchange) (log : List Exchange) → Fa
 fair-rest n f x log (o, c) = (rest-spoken (new_sender n f) (new_receiver n) x log o, earlier-clean n [] [] (x ∷ []) log c)
 
 -- an answer is a payload, or nothing
-reply-sayable : (v : Receiver) → (T (ltb 0 v.size) → IsPayload (answers v)) → Sayable (replies v)
-reply-sayable v i = go (cases_Bool (ltb 0 v.size))
-  where
-    go : (ltb 0 v.size ≡ true) ⊎ (ltb 0 v.size ≡ false) → Sayable (replies v)
-    go (inl e) = subst (λ (h : Heard). Sayable h) (sym (cond-true (ltb 0 v.size) (Got (answers v)) Lost e)) (i (holds (ltb 0 v.size) e))
-    go (inr e) = subst (λ (h : Heard). Sayable h) (sym (cond-false (ltb 0 v.size) (Got (answers v)) Lost e)) tt
+reply-sayable : (b : Bool) (p : List ℕ) → (T b → IsPayload p) → Sayable (cond b (Got p) Lost)
+reply-sayable true p i = i tt
+reply-sayable false p i = tt
 
 -- a round with at most four bits wrong each way came through
 fine-through :
@@ -63,8 +54,9 @@ unfolding Spoken Crossed sender_by receiver_by
 fine-through n f l x log m i ((forth, back, rest), c) (d, u, more) a b =
     let before = says-payloads n f m i (world_by (start n f) log) (fair-run n f log (fair-rest n f x log ((forth, back, rest), c))) in
     let after = says-payloads n f m i (world_by (start n f) (x ∷ log)) (fair-run n f (x ∷ log) ((forth, back, rest), c)) in
+    let v = hears x.below (receiver_by (new_receiver n) log) in
     let said : IsPayload x.forth = subst (λ (p : List ℕ). IsPayload p) (sym forth) before.0 in
-    let answered : Sayable x.back = subst (λ (h : Heard). Sayable h) (sym back) (reply-sayable (hears x.below (receiver_by (new_receiver n) log)) after.1) in (
+    let answered : Sayable x.back = subst (λ (h : Heard). Sayable h) (sym back) (reply-sayable (ltb 0 v.size) (answers v) after.1) in (
       fine-heard (line_by l log).p (line_by l log).forth.state (Got x.forth) x.below said d a,
       fine-heard (line_by l log).p (line_by l log).back.state x.back x.above answered u b,
     )
@@ -111,5 +103,5 @@ ends-in-time n f seed p w r m i c later middle earlier e g h =
     through : AllThrough middle
     through = all-through n f (new_line seed p) middle earlier m i most (rest-crossed (new_line seed p) later (middle ++ earlier) crossed) g
 
-pub rehearsal-right : RehearsalRight
-rehearsal-right = record { repeatable = repeatable; hands_over = hands-over; ends = ends-in-time }
+pub rehearsal_right : RehearsalRight
+rehearsal_right = record { repeatable = repeatable; hands_over = hands-over; ends = ends-in-time }

@@ -42,23 +42,20 @@ fold-carried l (x ∷ log) (f, b, c) = round (fold-carried l log c) x (f, refl) 
 
 -- ---- a rehearsal goes on
 -- a table of equal parts
-table_of : (w u : Table) → w.sender ≡ u.sender → w.receiver ≡ u.receiver → w.line ≡ u.line → w.rounds ≡ u.rounds → w.first ≡ u.first → w ≡ u
-table_of w u a b c d e =
-    ap (λ (x : Sender). record { sender = x; receiver = w.receiver; line = w.line; rounds = w.rounds; first = w.first }) a ∙
-    ap (λ (x : Receiver). record { sender = u.sender; receiver = x; line = w.line; rounds = w.rounds; first = w.first }) b ∙
-    ap (λ (x : Noisy). record { sender = u.sender; receiver = u.receiver; line = x; rounds = w.rounds; first = w.first }) c ∙
-    ap (λ (x : ℕ). record { sender = u.sender; receiver = u.receiver; line = u.line; rounds = x; first = w.first }) d ∙
-    ap (λ (x : ℕ). record { sender = u.sender; receiver = u.receiver; line = u.line; rounds = u.rounds; first = x }) e
+table_of :
+    {s t : Sender} {v u : Receiver} {l m : Noisy} {k j : ℕ} {i h : Option ℕ} → s ≡ t → v ≡ u → l ≡ m → k ≡ j → i ≡ h →
+    ◌≡◌ {A = Table} (record { sender = s; receiver = v; line = l; rounds = k; first = i }) (record { sender = t; receiver = u; line = m; rounds = j; first = h })
+table_of a b c d e = cc
 
 -- nothing played yet
 pub begun :
-    (n : ℕ) (f : List ℕ) (seed p : ℕ) (w : Table) → w.sender ≡ new_sender n f → w.receiver ≡ new_receiver n → w.line ≡ new_line seed p →
-    w.rounds ≡ 0 → w.first ≡ 0 → Rehearsed n f seed p w
+    {n : ℕ} {f : List ℕ} {seed p : ℕ} {w : Table} → w.sender ≡ new_sender n f → w.receiver ≡ new_receiver n → w.line ≡ new_line seed p →
+    w.rounds ≡ 0 → w.first ≡ None → Rehearsed n f seed p w
 unfolding Spoken Ongoing Crossed sender_by receiver_by line_by first_complete
-begun n f seed p w a b c d e =
+begun {n = n} {f = f} {seed = seed} {p = p} {w = w} a b c d e =
     record {
       log = [];
-      table = table_of w (table_by n f seed p []) a b c d e;
+      table = table_of a b c d e;
       spoken = tt;
       crossed = tt;
       ongoing = tt;
@@ -83,14 +80,14 @@ played-of n f seed p w r =
     }
 
 pub goes_on :
-    (w u : Table) → PlayedOn Forth Back w.line u.line w.sender u.sender w.receiver u.receiver w.rounds w.first u.rounds u.first →
-    GoesOn w u
-goes_on w u on n f seed p a =
-    let b = on (new_line seed p) (new_sender n f) (new_receiver n) (played-of n f seed p w a) in
+    {v w u : Table} → w ≡ v → PlayedOn Forth Back w.line u.line w.sender u.sender w.receiver u.receiver w.rounds w.first u.rounds u.first →
+    GoesOn v u
+goes_on {w = w} e on n f seed p a =
+    let b = on (new_line seed p) (new_sender n f) (new_receiver n) (played-of n f seed p w (subst (λ (y : Table). Rehearsed n f seed p y) (sym e) a)) in
     let d = carried-fold (new_line seed p) b.carried in
     record {
       log = b.log;
-      table = table_of u (table_by n f seed p b.log) b.sender b.receiver d.line b.rounds b.first;
+      table = table_of b.sender b.receiver d.line b.rounds b.first;
       spoken = b.spoken;
       crossed = d.crossed;
       ongoing = b.ongoing;
@@ -106,6 +103,12 @@ crosses-once : (p s : ℕ) (said h g : Heard) → Crosses p s said h → Crosses
 crosses-once p s Lost h g a b = a ∙ sym b
 crosses-once p s (Got q) h g a b = heard-once (arriving p s (frame q)) h g a b
 
+-- an exchange of equal parts
+exchange_of :
+    {p q : List ℕ} {a b c d e f : Heard} → p ≡ q → a ≡ b → c ≡ d → e ≡ f →
+    ◌≡◌ {A = Exchange} (record { forth = p; below = a; back = c; above = e }) (record { forth = q; below = b; back = d; above = f })
+exchange_of x y z w = cc
+
 -- one round more, where what came before is the same
 one_more :
     (s : Sender) (v : Receiver) (l : Noisy) (log : List Exchange) (x y : Exchange) → x.forth ≡ says (sender_by s log) → y.forth ≡ says (sender_by s log) →
@@ -114,11 +117,7 @@ one_more :
     Crosses (line_by l log).p (line_by l log).forth.state (Got y.forth) y.below →
     Crosses (line_by l log).p (line_by l log).back.state x.back x.above →
     Crosses (line_by l log).p (line_by l log).back.state y.back y.above → x ≡ y
-one_more s v l log x y xf yf xb yb xd yd xu yu =
-    ap (λ (q : List ℕ). record { forth = q; below = x.below; back = x.back; above = x.above }) forth ∙
-    ap (λ (h : Heard). record { forth = y.forth; below = h; back = x.back; above = x.above }) below ∙
-    ap (λ (h : Heard). record { forth = y.forth; below = y.below; back = h; above = x.above }) back ∙
-    ap (λ (h : Heard). record { forth = y.forth; below = y.below; back = y.back; above = h }) above
+one_more s v l log x y xf yf xb yb xd yd xu yu = exchange_of forth below back above
   where
     p : ℕ
     p = (line_by l log).p

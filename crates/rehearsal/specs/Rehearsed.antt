@@ -1,27 +1,20 @@
 -- A rehearsal: all of it follows from its log, and the log from the file, the seed, P and the count of rounds. Assumes nothing.
-use Rattle.std.specs.Prelude.{◌≡◌, ℕ, List, length}
+use Rattle.std.specs.Prelude.{◌≡◌, ℕ, Option, List, length}
 use Rattle.transfer_theory.specs.Sender.{Sender, new_sender}
 use Rattle.transfer_theory.specs.Receiver.{Receiver, new_receiver}
-use Rattle.transfer.specs.Stations.{receiver_in}
 use Rattle.driver.specs.Log.{Exchange, Spoken, Ongoing, sender_by, receiver_by, first_complete}
 use Rattle.driver.specs.Played.{Promised}
-use Rattle.ends.specs.Turns.{sender_in}
 use Rattle.rehearsal.specs.declared.noisy.Noisy.{Noisy}
-use Rattle.rehearsal.specs.declared.table.Rehearsal.{Rehearsal}
 use Rattle.rehearsal.specs.declared.rehearsing.Report.{Report}
 use Rattle.rehearsal.specs.Noisy.{new_line, line_by, Crossed}
 
--- all that stands on the table: both sides, the line, the rounds played, and the one after which the station was first complete, or 0
+-- all that stands on the table: both sides, the line, the rounds played, and the one after which the station was first complete, if any
 pub record Table : Type 0 where
   pub sender : Sender
   pub receiver : Receiver
   pub line : Noisy
   pub rounds : ℕ
-  pub first : ℕ
-
-abbrev pub table_of : Rehearsal → Table
-table_of r =
-    record { sender = sender_in r.link; receiver = receiver_in r.station; line = r.line; rounds = r.outcome.rounds; first = r.outcome.complete }
+  pub first : Option ℕ
 
 -- the table that a log leads to, from the file f of number n and a line with the seed and P
 abbrev pub table_by : ℕ → List ℕ → ℕ → ℕ → List Exchange → Table
@@ -47,6 +40,6 @@ pub record Rehearsed (n : ℕ) (f : List ℕ) (seed p : ℕ) (w : Table) : Type 
 abbrev pub GoesOn : Table → Table → Type 0
 GoesOn w u = (n : ℕ) (f : List ℕ) (seed p : ℕ) → Rehearsed n f seed p w → Rehearsed n f seed p u
 
--- what is reported
-abbrev pub report_of : Rehearsal → Report
-report_of r = record { rounds = r.outcome.rounds; complete = r.outcome.complete; told = r.outcome.told; counts = r.line.counts }
+-- what is reported; of the ship, what it was told
+abbrev pub report_of : Table → Report
+report_of w = record { outcome = record { rounds = w.rounds; complete = w.first; told = w.sender.done }; counts = w.line.counts }

@@ -5,13 +5,12 @@ ghost use Rattle.rehearsal.specs.Laws.{RehearsalRight};
 
 mod noisy;
 mod rehearsing;
-mod table;
 
 pub use noisy::{Counts, Noisy};
-pub use rehearsing::Report;
-pub use table::Rehearsal;
+pub use rehearsing::{Rehearsal, Report};
 
 // What a rehearsal promises: it can be repeated, and enough good rounds end it.
+#[tactic(auto, using(crate::proofs::Ending::rehearsal_right))]
 pub fn rehearsal_stands() -> u8
     ensures { RehearsalRight }
 {

@@ -1,20 +1,17 @@
 // A noisy line: what is said goes out as a frame's bits, which the noise of its way spoils; and the line counts.
-ghost use Rattle.std.specs.Prelude.{◌≡◌, T};
-ghost use Rattle.bits.specs.Heard.{Got};
-ghost use Rattle.bits.specs.Lists.{are_bits};
-ghost use Rattle.frame_theory.specs.Frame.{Hears};
+ghost use Rattle.std.specs.Prelude.{◌≡◌};
+ghost use Rattle.bits.specs.Heard.{Got, heard_of};
 ghost use Rattle.text.specs.Noise.{behind};
-ghost use Rattle.transfer.specs.Lines.{heard_of};
-ghost use Rattle.rehearsal.specs.Noisy.{Crosses, wrong_in, one, one_part, counted_forth, counted_back, new_line, Forth, Back};
+ghost use Rattle.rehearsal.specs.Noisy.{Crosses, wrong_in, counted_forth, counted_back, new_line, Forth, Back};
 
-use driver::line::TracedLine;
 use frame::Radio;
 use link::TheLink;
 use text::{FRAME, Noise};
+use transfer::sides::Line;
 
 // What was counted: parts that the ship said, payloads that the station heard, answers that it said, payloads that the ship heard, and
 // the bits that were wrong in what arrived, both ways. A count that reaches the greatest number of 64 bits stays there.
-#[derive(Clone, Copy)]
+#[derive(Clone, Copy, PartialEq, Eq, Debug, Default)]
 pub struct Counts {
     pub parts: u64,
     pub below: u64,
@@ -32,26 +29,15 @@ pub struct Noisy {
     pub counts: Counts,
 }
 
-// What came of something that was said: what is heard, and how many bits were wrong.
-#[derive(Clone, Copy)]
+// What came of something that was said: what is heard, and how many bits were wrong. The default is that nothing arrives.
+#[derive(Clone, Copy, Default)]
 struct Crossing {
     heard: Option<[u8; 221]>,
     wrong: u64,
 }
 
-// What is heard in the bits of a frame.
-fn listen(bits: &[u8; FRAME]) -> Option<[u8; 221]>
-    requires { T (are_bits bits.now) }
-    ensures { Hears bits.now (heard_of result) }
-{
-    let mut payload = [0; 221];
-    match <TheLink as Radio>::hear(bits, &mut payload) {
-        1 => Some(payload),
-        _ => None,
-    }
-}
-
-// A payload on its way.
+// A payload on its way. (A frame's bits are bits behind the noise too, so hearing refuses none.)
+#[tactic(auto, using(crate::proofs::Arriving::arrives_in_bits))]
 fn cross(p: u32, noise: &mut Noise, said: &[u8; 221]) -> Crossing
     ensures heard { Crosses p noise.old.state (Got said.now) (heard_of result.heard) }
     ensures wrong { result.wrong ≡ wrong_in p noise.old.state (Got said.now) }
@@ -61,13 +47,10 @@ fn cross(p: u32, noise: &mut Noise, said: &[u8; 221]) -> Crossing
     <TheLink as Radio>::send(said, &mut bits);
     match noise.spoil(p, &mut bits) {
         Some(changed) => Crossing {
-            heard: listen(&bits),
+            heard: <TheLink as Radio>::hear(&bits).ok().flatten(),
             wrong: changed as u64,
         },
-        None => Crossing {
-            heard: None,
-            wrong: 0,
-        },
+        None => Crossing::default(),
     }
 }
 
@@ -81,43 +64,29 @@ fn cross_any(p: u32, noise: &mut Noise, said: &Option<[u8; 221]>) -> Crossing
         Some(payload) => cross(p, noise, payload),
         None => {
             noise.pass(FRAME);
-            Crossing {
-                heard: None,
-                wrong: 0,
-            }
+            Crossing::default()
         }
     }
-}
-
-fn count_one(heard: &Option<[u8; 221]>) -> u64
-    ensures { result ≡ one (heard_of heard.now) }
-{
-    match heard {
-        Some(_) => 1,
-        None => 0,
-    }
-}
-
-fn count_part(said: &[u8; 221]) -> u64
-    ensures { result ≡ one_part (Got said.now) }
-{
-    if said[0] == 1 { 1 } else { 0 }
 }
 
 impl Counts {
     fn forth(&mut self, said: &[u8; 221], crossing: &Crossing)
         ensures { self.new ≡ counted_forth self.old (Got said.now) crossing.now.wrong (heard_of crossing.now.heard) }
     {
-        self.parts = self.parts.saturating_add(count_part(said));
-        self.below = self.below.saturating_add(count_one(&crossing.heard));
+        self.parts = self.parts.saturating_add(u64::from(said[0] == 1));
+        self.below = self
+            .below
+            .saturating_add(u64::from(crossing.heard.is_some()));
         self.wrong = self.wrong.saturating_add(crossing.wrong);
     }
 
     fn back(&mut self, said: &Option<[u8; 221]>, crossing: &Crossing)
         ensures { self.new ≡ counted_back self.old (heard_of said.now) crossing.now.wrong (heard_of crossing.now.heard) }
     {
-        self.answers = self.answers.saturating_add(count_one(said));
-        self.above = self.above.saturating_add(count_one(&crossing.heard));
+        self.answers = self.answers.saturating_add(u64::from(said.is_some()));
+        self.above = self
+            .above
+            .saturating_add(u64::from(crossing.heard.is_some()));
         self.wrong = self.wrong.saturating_add(crossing.wrong);
     }
 }
@@ -131,18 +100,12 @@ impl Noisy {
             p,
             forth: Noise::new(seed),
             back: Noise::new(seed.wrapping_add(1)),
-            counts: Counts {
-                parts: 0,
-                below: 0,
-                answers: 0,
-                above: 0,
-                wrong: 0,
-            },
+            counts: Counts::default(),
         }
     }
 }
 
-impl TracedLine for Noisy {
+impl Line for Noisy {
     ghost forth = { Forth };
 
     ghost back = { Back };
