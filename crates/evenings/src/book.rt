@@ -8,18 +8,37 @@ pub enum Sense {
     End,
     Ask(usize),
     AllThere,
-    Nothing,
+}
+
+// A payload, and what it says, if it says anything.
+#[derive(Clone, Copy)]
+pub struct Payload {
+    pub sense: Option<Sense>,
+    pub bytes: [u8; 221],
+}
+
+impl Payload {
+    pub fn saying(sense: Sense, bytes: [u8; 221]) -> Payload {
+        Payload {
+            sense: Some(sense),
+            bytes,
+        }
+    }
+
+    pub fn saying_nothing(bytes: [u8; 221]) -> Payload {
+        Payload { sense: None, bytes }
+    }
 }
 
 #[derive(Drop)]
 pub struct Book {
     pub number: u8,
-    pub length: usize,
+    length: usize,
     pub parts: usize,
-    pub place: usize,
+    place: usize,
     pub done: bool,
-    pub ended: bool,
-    pub got: [bool; 1000],
+    ended: bool,
+    got: [bool; 1000],
 }
 
 impl Book {
@@ -27,7 +46,7 @@ impl Book {
         Book {
             number,
             length,
-            parts: length / 214 + if length % 214 == 0 { 0 } else { 1 },
+            parts: length.div_ceil(214),
             place: 0,
             done: false,
             ended: false,
@@ -35,65 +54,54 @@ impl Book {
         }
     }
 
-    // The first part that was not delivered, or the count of parts.
-    fn gap(&self) -> usize {
-        for (i, got) in self.got.iter().take(self.parts).enumerate() {
-            if !*got {
-                return i;
-            }
-        }
-        self.parts
+    // The first part that was not delivered.
+    fn gap(&self) -> Option<usize> {
+        self.got.iter().take(self.parts).position(|got| !*got)
     }
 
     // Whether the end and all parts were delivered.
     pub fn complete(&self) -> bool {
-        self.ended && self.gap() == self.parts
+        self.ended && self.gap().is_none()
     }
 
     // The station is told.
-    pub fn told_station(&mut self, sense: Sense) {
+    pub fn told_station(&mut self, sense: Option<Sense>) {
         match sense {
-            Sense::Part(i) => {
+            Some(Sense::Part(i)) => {
                 if let Some(got) = self.got.get_mut(i) {
                     *got = true;
                 }
             }
-            Sense::End => self.ended = true,
+            Some(Sense::End) => self.ended = true,
             _ => {}
         }
     }
 
     // The ship is told.
-    pub fn told_ship(&mut self, sense: Sense) {
+    pub fn told_ship(&mut self, sense: Option<Sense>) {
         match sense {
-            Sense::Ask(i) => {
-                if i < self.parts {
-                    self.place = i;
-                }
-            }
-            Sense::AllThere => self.done = true,
+            Some(Sense::Ask(i)) if i < self.parts => self.place = i,
+            Some(Sense::AllThere) => self.done = true,
             _ => {}
         }
     }
 
     // What the ship must say next, and the place goes on.
-    pub fn next(&mut self, content: &[u8]) -> (Sense, [u8; 221]) {
-        if self.place < self.parts {
-            let place = self.place;
-            self.place = place.saturating_add(1);
-            (Sense::Part(place), part(self.number, place, content))
+    pub fn next(&mut self, content: &[u8]) -> Payload {
+        let place = self.place;
+        if place < self.parts {
+            self.place = place + 1;
+            Payload::saying(Sense::Part(place), part(self.number, place, content))
         } else {
-            (Sense::End, end(self.number, self.parts, self.length))
+            Payload::saying(Sense::End, end(self.number, self.parts, self.length))
         }
     }
 
-    // What the station must answer, once an end was delivered.
-    pub fn answer(&self) -> (Sense, [u8; 221]) {
-        let gap = self.gap();
-        if gap < self.parts {
-            (Sense::Ask(gap), ask(self.number, gap))
-        } else {
-            (Sense::AllThere, all_there(self.number))
-        }
+    // What the station must answer: nothing before an end was delivered.
+    pub fn answer(&self) -> Option<Payload> {
+        self.ended.then(|| match self.gap() {
+            Some(gap) => Payload::saying(Sense::Ask(gap), ask(self.number, gap)),
+            None => Payload::saying(Sense::AllThere, all_there(self.number)),
+        })
     }
 }

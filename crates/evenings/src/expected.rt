@@ -3,13 +3,9 @@
 // The part at a place: what of the content is left from there on, at most 214 bytes.
 pub fn part(file: u8, place: usize, content: &[u8]) -> [u8; 221] {
     let mut payload = head(1, file, place);
-    let from = place.saturating_mul(214).min(content.len());
-    let mut count = 0u8;
-    for (to, b) in payload.iter_mut().skip(7).zip(content[from..].iter()) {
-        *to = *b;
-        count = count.saturating_add(1);
-    }
-    payload[4] = count;
+    let body = content.chunks(214).nth(place).unwrap_or(&[]);
+    payload[4] = body.len() as u8;
+    payload[7..7 + body.len()].copy_from_slice(body);
     payload
 }
 
@@ -17,9 +13,7 @@ pub fn part(file: u8, place: usize, content: &[u8]) -> [u8; 221] {
 pub fn end(file: u8, parts: usize, length: usize) -> [u8; 221] {
     let mut payload = head(2, file, parts);
     payload[4] = 4;
-    payload[8] = (length / 65536 % 256) as u8;
-    payload[9] = (length / 256 % 256) as u8;
-    payload[10] = (length % 256) as u8;
+    payload[7..11].copy_from_slice(&length.to_be_bytes()[4..]);
     payload
 }
 
@@ -31,11 +25,11 @@ pub fn all_there(file: u8) -> [u8; 221] {
     head(4, file, 0)
 }
 
+// The kind, the file's number, and a number in two bytes.
 fn head(kind: u8, file: u8, number: usize) -> [u8; 221] {
     let mut payload = [0u8; 221];
     payload[0] = kind;
     payload[1] = file;
-    payload[2] = (number / 256 % 256) as u8;
-    payload[3] = (number % 256) as u8;
+    payload[2..4].copy_from_slice(&number.to_be_bytes()[6..]);
     payload
 }

@@ -1,4 +1,4 @@
-// Pseudo-random numbers from a seed: xorshift with 64 bits.
+// Pseudo-random numbers from a seed: xorshift with 64 bits, written out, since the stored totals hang on each of its numbers.
 ghost use Rattle.std.specs.Prelude.{◌<◌};
 
 #[derive(Drop)]

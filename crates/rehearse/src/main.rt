@@ -9,12 +9,11 @@ use link::TheLink;
 use progress::Progress;
 use rehearsal::{Rehearsal, Report};
 use std::process::ExitCode;
+use transfer::ship::LONGEST;
+use transfer::station::MEMORY;
 
 const USAGE: &str =
     "usage: rehearse N FILE SEED P ROUNDS, N from 0 to 255, FILE of at most 214,000 bytes, SEED and ROUNDS from 0 to 18446744073709551615, P from 0 to 65536";
-
-// The most bytes that a file has.
-const MOST: u32 = 214000;
 
 // What a rehearsal is called with.
 #[derive(Clone, Copy)]
@@ -44,41 +43,38 @@ fn read_call(args: &[String]) -> Result<Call<'_>, Refusal> {
     })
 }
 
-// Plays all rounds, or until the ship is done; with progress on the way where that is asked for.
-fn play(rt: &HostRuntime, rehearsal: &mut Rehearsal, rounds: u64, progress: &Progress) {
-    let mut stop = progress.next_stop(0, rounds);
-    for _ in 0..u64::MAX {
-        rehearsal.go_on(stop);
-        let report = rehearsal.report();
-        if report.told || stop >= rounds {
-            break;
+// Plays all rounds, or until the ship is done; where progress is asked for, it is shown on the way.
+fn play(rt: &HostRuntime, rehearsal: &mut Rehearsal, rounds: u64, progress: Option<Progress>) {
+    if let Some(progress) = progress {
+        for stop in (progress.every..rounds).step_by(progress.every as usize) {
+            rehearsal.go_on(stop);
+            if rehearsal.report().outcome.told {
+                break;
+            }
+            progress.show(rt, rehearsal);
         }
-        progress.show(rt, &report, rehearsal.parts_there());
-        stop = progress.next_stop(stop, rounds);
     }
+    rehearsal.go_on(rounds);
 }
 
+// What there is to report. (No Display of the report: the last line also needs the rounds that were asked for.)
 fn print(rt: &HostRuntime, report: &Report, rounds: u64) -> Result<(), Failure> {
     println!(rt; "heard by station {}", report.counts.below)?;
     println!(rt; "heard by ship {}", report.counts.above)?;
     println!(rt; "wrong bits {}", report.counts.wrong)?;
-    if report.complete == 0 {
-        println!(rt; "not after {rounds}")?;
-    } else {
-        println!(rt; "handed over after {} rounds", report.complete)?;
+    match report.outcome.complete {
+        Some(round) => println!(rt; "handed over after {round} rounds")?,
+        None => println!(rt; "not after {rounds}")?,
     }
     Ok(())
 }
 
 fn run(rt: &HostRuntime) -> Result<(), Failure> {
     let args = console::arguments(rt)?;
-    let call = match read_call(args.as_slice()) {
-        Ok(call) => call,
-        Err(e) => return Err(console::explain(rt, USAGE, Failure::Refused(e))),
-    };
-    let content = console::read_file(rt, call.path, MOST)?;
+    let call = read_call(args.as_slice()).map_err(|e| console::explain(rt, USAGE, e.into()))?;
+    let content = console::read_file(rt, call.path, LONGEST)?;
     let link = TheLink::new(rt.alloc())?;
-    let mut memory = vec![in rt.alloc(); 0u8; 215000]?;
+    let mut memory = vec![in rt.alloc(); 0u8; MEMORY]?;
     let mut rehearsal = Rehearsal::open(
         link,
         memory.as_mut_slice(),
@@ -88,10 +84,11 @@ fn run(rt: &HostRuntime) -> Result<(), Failure> {
         call.p,
     )?;
     let progress = Progress::asked(rt, content.len());
-    play(rt, &mut rehearsal, call.rounds, &progress);
-    let report = rehearsal.report();
-    print(rt, &report, call.rounds)?;
-    progress.summary(rt, &report, rehearsal.parts_there());
+    play(rt, &mut rehearsal, call.rounds, progress);
+    print(rt, &rehearsal.report(), call.rounds)?;
+    if let Some(progress) = progress {
+        progress.summary(rt, &rehearsal);
+    }
     Ok(())
 }
 

@@ -21,20 +21,9 @@ const TEXTS: [(&str, u64, [u64; 3]); 14] = [
     ("18446744073709551616", 0, [5, 5, 5]),
 ];
 
-// 0 if this value was read, 1 if another, or the number of the refusal.
-fn came(read: Result<u64, Refusal>, value: u64) -> u64 {
-    match read {
-        Ok(v) => u64::from(v != value),
-        Err(e) => u64::from(e.code()),
-    }
-}
-
-fn file_number(text: &[u8]) -> Result<u64, Refusal> {
-    Ok(u64::from(text::file_number(text)?))
-}
-
-fn chance(text: &[u8]) -> Result<u64, Refusal> {
-    Ok(u64::from(text::chance(text)?))
+// Whether another value was read than this one.
+fn other<T: Into<u64>>(read: Result<T, Refusal>, value: u64) -> Result<bool, Refusal> {
+    Ok(read?.into() != value)
 }
 
 pub fn all(rt: &HostRuntime, table: &mut Table) -> anyhow::Result<()> {
@@ -43,48 +32,35 @@ pub fn all(rt: &HostRuntime, table: &mut Table) -> anyhow::Result<()> {
     )?;
     for (text, value, expected) in TEXTS {
         let bytes = text.as_bytes();
-        let number = came(file_number(bytes), value);
-        let parts = came(chance(bytes), value);
-        let seed = came(text::number(bytes, u64::MAX), value);
-        table.row(rt, text, [number, parts, seed], expected)?;
+        let came = (
+            other(text::file_number(bytes), value),
+            other(text::chance(bytes), value),
+            other(text::number(bytes, u64::MAX), value),
+        );
+        table.row(rt, text, came, expected)?;
     }
     Ok(())
 }
 
-// How many bytes are 255.
-fn full(memory: &[u8]) -> u64 {
-    let mut n = 0u64;
-    for x in memory {
-        n = n.saturating_add(u64::from(*x == 255));
-    }
-    n
-}
+// The name of lent memory in the table, its length, the answer, and how many of its bytes stay as they were.
+const MEMORIES: [(&str, usize, u64, u64); 3] = [
+    ("one too few", 214999, 4, 214999),
+    ("one too many", 215001, 4, 215001),
+    ("just right", 215000, 0, 214000),
+];
 
 pub fn memories(rt: &HostRuntime, table: &mut Table) -> anyhow::Result<()> {
     println!(rt; "memory lent to a station: its length, the answer, bytes that are as they were")?;
-    let mut all = vec![in rt.alloc(); 255u8; 215001]?;
-    let mut few = vec![in rt.alloc(); 255u8; 214999]?;
-    let mut just = vec![in rt.alloc(); 255u8; 215000]?;
-    let code = u64::from(station_opens(7, &mut few));
-    table.row(
-        rt,
-        "one too few",
-        [214999, code, full(&few)],
-        [214999, 4, 214999],
-    )?;
-    let code = u64::from(station_opens(7, &mut all));
-    table.row(
-        rt,
-        "one too many",
-        [215001, code, full(&all)],
-        [215001, 4, 215001],
-    )?;
-    let code = u64::from(station_opens(7, &mut just));
-    table.row(
-        rt,
-        "just right",
-        [215000, code, full(&just)],
-        [215000, 0, 214000],
-    )?;
+    for (name, length, answer, left) in MEMORIES {
+        let mut memory = vec![in rt.alloc(); 255u8; length]?;
+        let opened = station_opens(7, &mut memory);
+        let full = memory.iter().filter(|b| **b == 255).count();
+        table.row(
+            rt,
+            name,
+            (length, opened, full),
+            [length as u64, answer, left],
+        )?;
+    }
     Ok(())
 }

@@ -1,8 +1,9 @@
 // Whole sessions, and what must be refused on the way.
+use super::cases::{Cases, first};
 use super::lines::line_of;
-use super::pair::Pair;
-use super::table::Table;
+use bits::Refusal;
 use text::LONGEST;
+use transfer::ship;
 
 // A file's length, its name in the table, and the rounds of a clean session: one more than it has parts.
 const FILES: [(usize, &str, u64); 8] = [
@@ -16,30 +17,19 @@ const FILES: [(usize, &str, u64); 8] = [
     (5000, "5,000 bytes", 25),
 ];
 
-// The first so many bytes, or all.
-pub fn first(pool: &[u8], length: usize) -> &[u8] {
-    &pool[0..length.min(pool.len())]
-}
-
-pub fn whole(
-    rt: &HostRuntime,
-    table: &mut Table,
-    pair: &mut Pair<'_>,
-    pool: &[u8],
-    out: &mut [u8; 214000],
-) -> anyhow::Result<()> {
+fn whole(cases: &mut Cases<'_>, rt: &HostRuntime) -> anyhow::Result<()> {
     println!(rt;
         "a clean session: rounds until done, round in which the file was first handed over, bytes as in the file"
     )?;
     for (length, name, rounds) in FILES {
-        let content = first(pool, length);
-        pair.begin(content);
-        let (done, handed) = pair.play(out);
-        let bytes = pair.handed(content, out);
-        table.row(
+        let content = cases.first(length);
+        cases.pair.begin(content);
+        let played = cases.pair.play(cases.out);
+        let handed = cases.pair.handed(content, cases.out);
+        cases.table.row(
             rt,
             name,
-            [done, handed, bytes],
+            (played.done, played.handed, handed),
             [rounds, rounds, length as u64],
         )?;
     }
@@ -63,24 +53,21 @@ const BAD: [(&str, usize, usize, u8); 10] = [
 const WORDS: [(&str, &[u8]); 2] = [("done", b"done"), ("refused 5", b"refused 5")];
 
 // In the second round of a session of 300 bytes both ends hear a bad line: the answers of both, and the rounds that are left.
-fn refused(pair: &mut Pair<'_>, pool: &[u8], text: &[u8], out: &mut [u8; 214000]) -> [u64; 3] {
-    let content = first(pool, 300);
-    pair.begin(content);
-    let _ = pair.round();
+fn refused(
+    cases: &mut Cases<'_>,
+    text: &[u8],
+) -> (Result<(), Refusal>, Result<bool, Refusal>, Option<u64>) {
+    let content = cases.first(300);
+    cases.pair.begin(content);
+    let _ = cases.pair.round();
     let mut bad = line_of(text);
-    let below = pair.hears(&bad);
-    let above = pair.turn(&mut bad);
-    let (left, _) = pair.play(out);
-    [below, above, left]
+    let below = cases.pair.hears(&bad);
+    let above = cases.pair.turn(&mut bad);
+    let left = cases.pair.play(cases.out);
+    (below, above, left.done)
 }
 
-pub fn bad_lines(
-    rt: &HostRuntime,
-    table: &mut Table,
-    pair: &mut Pair<'_>,
-    pool: &[u8],
-    out: &mut [u8; 214000],
-) -> anyhow::Result<()> {
+fn bad_lines(cases: &mut Cases<'_>, rt: &HostRuntime) -> anyhow::Result<()> {
     println!(rt;
         "a bad line behind round 1 of 3: the station's refusal, the ship's, rounds that are left"
     )?;
@@ -89,42 +76,49 @@ pub fn bad_lines(
         if let Some(x) = text.get_mut(place) {
             *x = byte;
         }
-        let came = refused(pair, pool, first(&text, length), out);
-        table.row(rt, name, came, [5, 5, 2])?;
+        let came = refused(cases, first(&text, length));
+        cases.table.row(rt, name, came, [5, 5, 2])?;
     }
     for (name, text) in WORDS {
-        let came = refused(pair, pool, text, out);
-        table.row(rt, name, came, [5, 5, 2])?;
+        let came = refused(cases, text);
+        cases.table.row(rt, name, came, [5, 5, 2])?;
     }
-    let came = refused(pair, pool, b"", out);
-    table.row(
+    let came = refused(cases, b"");
+    cases.table.row(
         rt,
         "an empty line, no refusal; the frame that the ship then says, its end, is lost",
         came,
         [0, 0, 2],
-    )?;
-    Ok(())
+    )
 }
 
 // A file that is too long, behind round 1 of 3.
-pub fn too_long(
-    rt: &HostRuntime,
-    table: &mut Table,
-    pair: &mut Pair<'_>,
-    pool: &[u8],
-    out: &mut [u8; 214000],
-) -> anyhow::Result<()> {
+fn too_long(cases: &mut Cases<'_>, rt: &HostRuntime) -> anyhow::Result<()> {
     println!(rt;
         "a file begun behind round 1 of 3: its refusal, rounds that are left, bytes of the first file"
     )?;
-    let content = first(pool, 300);
-    pair.begin(content);
-    let _ = pair.round();
-    let code = pair.load(8, first(pool, 214001));
-    let (left, _) = pair.play(out);
-    let bytes = pair.handed(content, out);
-    table.row(rt, "214,001 bytes", [code, left, bytes], [3, 2, 300])?;
-    let code = pair.load(8, first(pool, 214000));
-    table.row(rt, "214,000 bytes", [code, 0, 0], [0, 0, 0])?;
-    Ok(())
+    let content = cases.first(300);
+    cases.pair.begin(content);
+    let _ = cases.pair.round();
+    let longer = cases.first(ship::LONGEST + 1);
+    let loaded = cases.pair.load(8, longer);
+    let left = cases.pair.play(cases.out);
+    let handed = cases.pair.handed(content, cases.out);
+    cases.table.row(
+        rt,
+        "214,001 bytes",
+        (loaded, left.done, handed),
+        [3, 2, 300],
+    )?;
+    let longest = cases.first(ship::LONGEST);
+    let loaded = cases.pair.load(8, longest);
+    cases
+        .table
+        .row(rt, "214,000 bytes", (loaded, (), ()), [0, 0, 0])
+}
+
+pub fn all(cases: &mut Cases<'_>, rt: &HostRuntime) -> anyhow::Result<()> {
+    whole(cases, rt)?;
+    bad_lines(cases, rt)?;
+    too_long(cases, rt)
 }

@@ -1,32 +1,41 @@
 // A ship and a station with the line between them, by the calls that the programs make.
-ghost use Rattle.transfer.specs.Stations.{Sound};
-
+use super::table::Cell;
 use bits::Refusal;
 use ends::{hand_over, ship_first, ship_turn, station_answers, station_hears};
 use link::{TheGround, TheLink};
 use text::Line;
+use transfer::ship::LONGEST;
 use transfer::sides::{Ship, Station};
 
-// What a case gives where bytes are not as they should be.
-pub const WRONG: u64 = 999999;
+// What was handed over is not the file; in the table, a number that no file's length is.
+#[derive(Clone, Copy)]
+pub struct OtherBytes;
 
-// The station's memory has the right length, so that it may be called at any time.
+impl Cell for OtherBytes {
+    fn number(self) -> u64 {
+        999999
+    }
+}
+
+// In which round of a session the ship was done, and in which a file was first handed over.
+#[derive(Clone, Copy, Default)]
+pub struct Played {
+    pub done: Option<u64>,
+    pub handed: Option<u64>,
+}
+
+// Both ends, and the line.
 #[derive(Drop)]
 pub struct Pair<'a> {
     pub link: TheLink,
     pub station: TheGround<'a>,
     // what the ship said last
     pub line: Line,
-    ghost sound: { Sound station },
 }
 
 impl<'a> Pair<'a> {
-    // 0, or the number of the refusal.
-    pub fn hears(&mut self, line: &Line) -> u64 {
-        match station_hears(&mut self.station, line) {
-            Ok(()) => 0,
-            Err(e) => u64::from(e.code()),
-        }
+    pub fn hears(&mut self, line: &Line) -> Result<(), Refusal> {
+        station_hears(&mut self.station, line)
     }
 
     pub fn answers(&self, line: &mut Line) {
@@ -34,11 +43,9 @@ impl<'a> Pair<'a> {
     }
 
     // The number of bytes handed over, if the station is complete.
-    fn hands_over(&self, out: &mut [u8; 214000]) -> Option<usize> {
-        match self.station.leave() {
-            Some(leave) => Some(hand_over(&self.station, leave, out)),
-            None => None,
-        }
+    fn hands_over(&self, out: &mut [u8; LONGEST]) -> Option<usize> {
+        let leave = self.station.leave()?;
+        Some(hand_over(&self.station, leave, out))
     }
 
     // A new file of number 7 for both; the ship says its first frame.
@@ -48,21 +55,18 @@ impl<'a> Pair<'a> {
         ship_first(&mut self.link, &mut self.line);
     }
 
-    // A file for the ship alone: 0, or the number of the refusal.
-    pub fn load(&mut self, number: u8, content: &[u8]) -> u64 {
-        u64::from(self.link.begin(number, content))
+    // A file for the ship alone.
+    pub fn load(&mut self, number: u8, content: &[u8]) -> Result<(), Refusal> {
+        self.link.begin(number, content)
     }
 
-    // The ship's turn on a line, with its next frame then in the line's place: 0, 1 if it is done, or the number of the refusal.
-    pub fn turn(&mut self, line: &mut Line) -> u64 {
-        match ship_turn(&mut self.link, line) {
-            Ok(done) => u64::from(done),
-            Err(e) => u64::from(e.code()),
-        }
+    // The ship's turn on a line, with its next frame then in the line's place: whether it is done.
+    pub fn turn(&mut self, line: &mut Line) -> Result<bool, Refusal> {
+        ship_turn(&mut self.link, line)
     }
 
-    // A round in which both lines come through: the ship's turn's number.
-    pub fn round(&mut self) -> u64 {
+    // A round in which both lines come through: the ship's turn.
+    pub fn round(&mut self) -> Result<bool, Refusal> {
         let mut line = self.line;
         let _ = self.hears(&line);
         self.answers(&mut line);
@@ -71,33 +75,33 @@ impl<'a> Pair<'a> {
         came
     }
 
-    // Rounds until the ship is done, at most 100: how many, and the first after which a file was handed over (0: none).
-    pub fn play(&mut self, out: &mut [u8; 214000]) -> (u64, u64) {
-        let mut handed = 0;
+    // Rounds until the ship is done, at most 99.
+    pub fn play(&mut self, out: &mut [u8; LONGEST]) -> Played {
+        let mut played = Played::default();
         for n in 1..100u64 {
             let done = self.round();
-            if handed == 0 && self.hands_over(out).is_some() {
-                handed = n;
+            if played.handed.is_none() {
+                played.handed = self.hands_over(out).map(|_| n);
             }
-            if done == 1 {
-                return (n, handed);
+            if done == Ok(true) {
+                played.done = Some(n);
+                break;
             }
         }
-        (100, handed)
+        played
     }
 
-    // How many bytes are handed over, if they are these.
-    pub fn handed(&self, content: &[u8], out: &mut [u8; 214000]) -> u64 {
+    // How many bytes are handed over, if any, and if they are these.
+    pub fn handed(
+        &self,
+        content: &[u8],
+        out: &mut [u8; LONGEST],
+    ) -> Result<Option<usize>, OtherBytes> {
         out.fill(238);
-        match self.hands_over(out) {
-            None => 0,
-            Some(n) => {
-                if n <= 214000 && &out[0..n] == content {
-                    n as u64
-                } else {
-                    WRONG
-                }
-            }
+        let handed = self.hands_over(out);
+        match handed.and_then(|n| out.get(..n)) {
+            Some(bytes) if bytes != content => Err(OtherBytes),
+            _ => Ok(handed),
         }
     }
 }

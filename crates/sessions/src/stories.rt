@@ -1,12 +1,12 @@
-// What each end says behind lines made by hand: kind, file, number.
-use super::files::first;
+// What each end says behind lines made by hand: kind, file, number, as they stand in the payload's bytes.
+use super::cases::Cases;
 use super::lines::{line_of, said_by, told};
 use super::pair::Pair;
-use super::table::Table;
+use bits::Refusal;
 use text::Line;
 
 // The station's answer behind a line.
-fn answer(pair: &mut Pair<'_>, line: &Line) -> [u64; 3] {
+fn answer(pair: &mut Pair<'_>, line: &Line) -> (u8, u8, u16) {
     let mut back = Line::new();
     let _ = pair.hears(line);
     pair.answers(&mut back);
@@ -69,71 +69,67 @@ const DOWN: [(&str, [u8; 4], [u8; 4], [u64; 3]); 12] = [
     ("an all-there", [4, 7, 0, 0], [0, 0, 0, 0], [4, 7, 0]),
 ];
 
-pub fn station(
-    rt: &HostRuntime,
-    table: &mut Table,
-    pair: &mut Pair<'_>,
-    pool: &[u8],
-    out: &mut [u8; 214000],
-) -> anyhow::Result<()> {
+fn station(cases: &mut Cases<'_>, rt: &HostRuntime) -> anyhow::Result<()> {
     println!(rt; "the station's answer behind a line: kind, file, number")?;
-    pair.begin(first(pool, 0));
-    for (name, [kind, file, number, count], bytes, expected) in DOWN {
-        let line = said_by(kind, file, number, count, bytes);
-        let came = answer(pair, &line);
-        table.row(rt, name, came, expected)?;
-        let came = answer(pair, &line_of(b""));
-        table.row(rt, "and behind an empty line", came, expected)?;
+    let nothing = cases.first(0);
+    cases.pair.begin(nothing);
+    for (name, head, bytes, expected) in DOWN {
+        let line = said_by(head, bytes);
+        let came = answer(&mut cases.pair, &line);
+        cases.table.row(rt, name, came, expected)?;
+        let came = answer(&mut cases.pair, &line_of(b""));
+        cases
+            .table
+            .row(rt, "and behind an empty line", came, expected)?;
     }
-    let bytes = pair.handed(&[1, 2, 3, 4], out);
-    table.row(
+    let handed = cases.pair.handed(&[1, 2, 3, 4], cases.out);
+    cases.table.row(
         rt,
         "bytes handed over, the first ones heard",
-        [bytes, 0, 0],
+        (handed, (), ()),
         [4, 0, 0],
-    )?;
-    Ok(())
+    )
 }
 
 // A line for the ship of 300 bytes: its name, kind, file, number; whether the ship is done; and what it says.
-const UP: [(&str, [u8; 3], u64, [u64; 3]); 11] = [
-    ("an ask of another file", [3, 8, 0], 0, [2, 7, 2]),
-    ("an ask for part 1", [3, 7, 1], 0, [1, 7, 1]),
-    ("an all-there of another file", [4, 8, 0], 0, [2, 7, 2]),
-    ("an ask for part 2 of two", [3, 7, 2], 0, [2, 7, 2]),
-    ("an ask for part 0", [3, 7, 0], 0, [1, 7, 0]),
-    ("a part", [1, 7, 0], 0, [1, 7, 1]),
-    ("an end", [2, 7, 0], 0, [2, 7, 2]),
-    ("an all-there", [4, 7, 0], 1, [2, 7, 2]),
-    ("an all-there once more", [4, 7, 0], 1, [2, 7, 2]),
-    ("an all-there of another file", [4, 8, 0], 1, [2, 7, 2]),
-    ("an ask for part 1", [3, 7, 1], 1, [1, 7, 1]),
+const UP: [(&str, [u8; 3], bool, [u64; 3]); 11] = [
+    ("an ask of another file", [3, 8, 0], false, [2, 7, 2]),
+    ("an ask for part 1", [3, 7, 1], false, [1, 7, 1]),
+    ("an all-there of another file", [4, 8, 0], false, [2, 7, 2]),
+    ("an ask for part 2 of two", [3, 7, 2], false, [2, 7, 2]),
+    ("an ask for part 0", [3, 7, 0], false, [1, 7, 0]),
+    ("a part", [1, 7, 0], false, [1, 7, 1]),
+    ("an end", [2, 7, 0], false, [2, 7, 2]),
+    ("an all-there", [4, 7, 0], true, [2, 7, 2]),
+    ("an all-there once more", [4, 7, 0], true, [2, 7, 2]),
+    ("an all-there of another file", [4, 8, 0], true, [2, 7, 2]),
+    ("an ask for part 1", [3, 7, 1], true, [1, 7, 1]),
 ];
 
 // The ship's turn on a line: whether it is done; kind and number of what it says.
-fn turn(pair: &mut Pair<'_>, mut line: Line) -> [u64; 3] {
+fn turn(pair: &mut Pair<'_>, mut line: Line) -> (Result<bool, Refusal>, u8, u16) {
     let done = pair.turn(&mut line);
-    let [kind, _, number] = told(&line);
-    [done, kind, number]
+    let (kind, _, number) = told(&line);
+    (done, kind, number)
 }
 
-pub fn ship(
-    rt: &HostRuntime,
-    table: &mut Table,
-    pair: &mut Pair<'_>,
-    pool: &[u8],
-) -> anyhow::Result<()> {
+fn ship(cases: &mut Cases<'_>, rt: &HostRuntime) -> anyhow::Result<()> {
     println!(rt;
         "the ship's turn on a line, behind its first frame: whether it is done; kind and number of what it says"
     )?;
-    pair.begin(first(pool, 300));
-    let came = turn(pair, line_of(b""));
-    table.row(rt, "an empty line", came, [0, 1, 1])?;
+    let content = cases.first(300);
+    cases.pair.begin(content);
+    let came = turn(&mut cases.pair, line_of(b""));
+    cases.table.row(rt, "an empty line", came, [0, 1, 1])?;
     for (name, [kind, file, number], done, [x, _, z]) in UP {
-        let came = turn(pair, said_by(kind, file, number, 0, [0; 4]));
-        table.row(rt, name, came, [done, x, z])?;
+        let came = turn(&mut cases.pair, said_by([kind, file, number, 0], [0; 4]));
+        cases.table.row(rt, name, came, [u64::from(done), x, z])?;
     }
-    let came = turn(pair, line_of(b""));
-    table.row(rt, "an empty line", came, [1, 2, 2])?;
-    Ok(())
+    let came = turn(&mut cases.pair, line_of(b""));
+    cases.table.row(rt, "an empty line", came, [1, 2, 2])
+}
+
+pub fn all(cases: &mut Cases<'_>, rt: &HostRuntime) -> anyhow::Result<()> {
+    station(cases, rt)?;
+    ship(cases, rt)
 }

@@ -4,47 +4,32 @@
 use console::Failure;
 use ends::{ship_first, ship_turn};
 use link::TheLink;
-use std::io::BufReader;
 use std::process::ExitCode;
 use text::Line;
+use transfer::ship::LONGEST;
 
 const USAGE: &str =
     "usage: ship N FILE, N from 0 to 255, FILE of at most 214,000 bytes; what is heard comes on standard input, a frame or an empty line at a time";
 
-// The most bytes that a file has.
-const MOST: u32 = 214000;
-
 // The first frame, and then a frame for each line, until the ship is done or the input ends.
 fn sail(rt: &HostRuntime, link: &mut TheLink) -> Result<(), Failure> {
-    let mut input = BufReader::new(rt.alloc(), rt.stdin())?;
-    let mut line = Line::new();
-    ship_first(link, &mut line);
-    console::print_line(rt, &line)?;
-    for n in 1..u64::MAX {
-        if !console::next_line(&mut input, &mut line)? {
-            break;
-        }
-        match ship_turn(link, &mut line) {
-            Ok(done) => {
-                console::print_line(rt, &line)?;
-                if done {
-                    println!(rt; "done")?;
-                    break;
-                }
-            }
-            Err(e) => return Err(console::blame_line(rt, n, e)),
-        }
+    let mut first = Line::new();
+    ship_first(link, &mut first);
+    console::print_line(rt, &first)?;
+    if console::answer_lines(rt, |line| Ok(ship_turn(link, line)?))? {
+        println!(rt; "done")?;
     }
     Ok(())
 }
 
 fn run(rt: &HostRuntime) -> Result<(), Failure> {
     let args = console::arguments(rt)?;
-    let (number, path) = match console::number_and_file(args.as_slice()) {
-        Ok(both) => both,
-        Err(e) => return Err(console::explain(rt, USAGE, Failure::Refused(e))),
-    };
-    let content = console::read_file(rt, path, MOST)?;
+    let (number, path) = console::number_and_file(args.as_slice()).map_err(|e| console::explain(
+        rt,
+        USAGE,
+        e.into(),
+    ))?;
+    let content = console::read_file(rt, path, LONGEST)?;
     let mut link = TheLink::new(rt.alloc())?;
     link.vessel.load(number, content.as_slice())?;
     sail(rt, &mut link)

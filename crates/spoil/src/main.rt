@@ -4,13 +4,13 @@
 
 use bits::Refusal;
 use console::Failure;
-use std::io::BufReader;
 use std::process::ExitCode;
-use text::{Line, Noise, spoil_line};
+use text::{Noise, spoil_line};
 
 const USAGE: &str =
     "usage: spoil SEED P, SEED from 0 to 18446744073709551615, P from 0 to 65536; lines come on standard input";
 
+// The noise's seed, and the probability: a pair, since its caller takes it apart at once.
 fn settings(rt: &HostRuntime) -> Result<(u64, u32), Failure> {
     let args = console::arguments(rt)?;
     let [_, seed, p] = args.as_slice() else {
@@ -22,22 +22,12 @@ fn settings(rt: &HostRuntime) -> Result<(u64, u32), Failure> {
 }
 
 fn run(rt: &HostRuntime) -> Result<(), Failure> {
-    let (seed, p) = match settings(rt) {
-        Ok(both) => both,
-        Err(e) => return Err(console::explain(rt, USAGE, e)),
-    };
+    let (seed, p) = settings(rt).map_err(|e| console::explain(rt, USAGE, e))?;
     let mut noise = Noise::new(seed);
-    let mut input = BufReader::new(rt.alloc(), rt.stdin())?;
-    let mut line = Line::new();
-    for n in 1..u64::MAX {
-        if !console::next_line(&mut input, &mut line)? {
-            break;
-        }
-        if let Err(e) = spoil_line(&mut noise, p, &mut line) {
-            return Err(console::blame_line(rt, n, e));
-        }
-        console::print_line(rt, &line)?;
-    }
+    console::answer_lines(rt, |line| {
+        spoil_line(&mut noise, p, line)?;
+        Ok(false)
+    })?;
     Ok(())
 }
 

@@ -1,4 +1,5 @@
 // How many lines of each kind there were, and how many of them agree.
+use std::fmt;
 
 #[derive(Clone, Copy)]
 pub enum Kind {
@@ -10,74 +11,74 @@ pub enum Kind {
     FrameHear,
 }
 
-#[derive(Clone, Copy)]
+impl Kind {
+    // All kinds, in the order of their numbers, written out since no derive lists them.
+    const ALL: [Kind; 6] = [
+        Kind::OuterEncode,
+        Kind::OuterRepair,
+        Kind::InnerEncode,
+        Kind::InnerDecode,
+        Kind::FrameSend,
+        Kind::FrameHear,
+    ];
+}
+
+impl fmt::Display for Kind {
+    fn fmt<W: fmt::Write>(&self, f: &mut fmt::Formatter<W>) -> fmt::Result {
+        f.write_str(match self {
+            Kind::OuterEncode => "outer encode",
+            Kind::OuterRepair => "outer repair",
+            Kind::InnerEncode => "inner encode",
+            Kind::InnerDecode => "inner decode",
+            Kind::FrameSend => "frame send",
+            Kind::FrameHear => "frame hear",
+        })
+    }
+}
+
+// Counts stay at the greatest number, since nothing bounds the input: so no sum of the library's.
+#[derive(Clone, Copy, Default)]
 struct Tally {
     agree: u64,
     all: u64,
 }
 
 impl Tally {
-    const NONE: Tally = Tally { agree: 0, all: 0 };
-
     fn count(&mut self, good: bool) {
         self.all = self.all.saturating_add(1);
-        if good {
-            self.agree = self.agree.saturating_add(1);
-        }
+        self.agree = self.agree.saturating_add(u64::from(good));
     }
 
-    fn show(&self, rt: &HostRuntime, name: &str) -> anyhow::Result<()> {
-        let agree = self.agree;
-        let all = self.all;
-        println!(rt; "{name} {agree} of {all} agree")?;
-        Ok(())
+    fn apart(&self) -> u64 {
+        self.all.saturating_sub(self.agree)
     }
 }
 
-#[derive(Clone, Copy)]
+impl fmt::Display for Tally {
+    fn fmt<W: fmt::Write>(&self, f: &mut fmt::Formatter<W>) -> fmt::Result {
+        write!(f, "{} of {} agree", self.agree, self.all)
+    }
+}
+
+// A tally for each kind, at the place of its number.
+#[derive(Clone, Copy, Default)]
 pub struct Report {
-    outer_encode: Tally,
-    outer_repair: Tally,
-    inner_encode: Tally,
-    inner_decode: Tally,
-    frame_send: Tally,
-    frame_hear: Tally,
-    total: Tally,
+    tallies: [Tally; 6],
 }
 
 impl Report {
-    pub fn new() -> Report {
-        Report {
-            outer_encode: Tally::NONE,
-            outer_repair: Tally::NONE,
-            inner_encode: Tally::NONE,
-            inner_decode: Tally::NONE,
-            frame_send: Tally::NONE,
-            frame_hear: Tally::NONE,
-            total: Tally::NONE,
-        }
-    }
-
     pub fn count(&mut self, kind: Kind, good: bool) {
-        match kind {
-            Kind::OuterEncode => self.outer_encode.count(good),
-            Kind::OuterRepair => self.outer_repair.count(good),
-            Kind::InnerEncode => self.inner_encode.count(good),
-            Kind::InnerDecode => self.inner_decode.count(good),
-            Kind::FrameSend => self.frame_send.count(good),
-            Kind::FrameHear => self.frame_hear.count(good),
-        }
-        self.total.count(good);
+        self.tallies[kind as usize].count(good);
     }
 
     pub fn show(&self, rt: &HostRuntime) -> anyhow::Result<()> {
-        self.outer_encode.show(rt, "outer encode")?;
-        self.outer_repair.show(rt, "outer repair")?;
-        self.inner_encode.show(rt, "inner encode")?;
-        self.inner_decode.show(rt, "inner decode")?;
-        self.frame_send.show(rt, "frame send")?;
-        self.frame_hear.show(rt, "frame hear")?;
-        let apart = self.total.all.saturating_sub(self.total.agree);
+        for (kind, tally) in Kind::ALL.iter().zip(&self.tallies) {
+            println!(rt; "{kind} {tally}")?;
+        }
+        let apart = self
+            .tallies
+            .iter()
+            .fold(0u64, |apart, tally| apart.saturating_add(tally.apart()));
         if apart == 0 {
             rt.println("all agree")?;
         } else {

@@ -1,5 +1,5 @@
 // The lowest layer: bytes as bits, the check of 16 bits, the pseudo-random pattern.
-use super::show::{digits, hex};
+use super::show::{Digits, Hex};
 use bits::{add_pattern, bits_of, byte_of, crc16, pack};
 
 pub fn bits_section(rt: &HostRuntime) -> anyhow::Result<()> {
@@ -8,7 +8,7 @@ pub fn bits_section(rt: &HostRuntime) -> anyhow::Result<()> {
     for b in *b"Hi!" {
         let bits = bits_of(b);
         let back = byte_of(&bits);
-        let text = digits(rt.alloc(), &bits)?;
+        let text = Digits(&bits);
         println!(rt; "     byte {b:3} ({b:02x})   bits {text}   and back {back:02x}")?;
     }
     Ok(())
@@ -25,26 +25,25 @@ pub fn check_section(rt: &HostRuntime) -> anyhow::Result<()> {
     Ok(())
 }
 
+// Forty bits as the five bytes that they pack into.
+fn show_packed(rt: &HostRuntime, what: &str, bits: &[u8; 40]) -> anyhow::Result<()> {
+    let mut bytes = [0u8; 5];
+    pack(bits, &mut bytes)?;
+    let text = Hex(&bytes);
+    println!(rt; "     {what:16}  {text}")?;
+    Ok(())
+}
+
 pub fn pattern_section(rt: &HostRuntime) -> anyhow::Result<()> {
     rt.println("\n3. The pattern")?;
     rt.println(
         "   A fixed pattern is added to the bits modulo 2, so that a payload of zeros is no long silence.",
     )?;
     rt.println("   Added once more, it gives the bits back.")?;
-    let heap = rt.alloc();
-    let mut line = [0u8; 40];
-    let mut bytes = [0u8; 5];
-    let before = hex(heap, &bytes)?;
-    println!(rt; "     five bytes        {before}")?;
-    add_pattern(&mut line);
-    if pack(&line, &mut bytes).is_ok() {
-        let text = hex(heap, &bytes)?;
-        println!(rt; "     with the pattern  {text}")?;
-    }
-    add_pattern(&mut line);
-    if pack(&line, &mut bytes).is_ok() {
-        let text = hex(heap, &bytes)?;
-        println!(rt; "     added once more   {text}")?;
-    }
-    Ok(())
+    let mut bits = [0u8; 40];
+    show_packed(rt, "five bytes", &bits)?;
+    add_pattern(&mut bits);
+    show_packed(rt, "with the pattern", &bits)?;
+    add_pattern(&mut bits);
+    show_packed(rt, "added once more", &bits)
 }

@@ -1,8 +1,5 @@
-// A line that plays tricks, and a station whose memory has the right length.
-ghost use Rattle.transfer.specs.Stations.{Sound};
-
-use transfer::sides::{Line, Station};
-use transfer::station::Ground;
+// A line that plays tricks.
+use transfer::sides::Line;
 
 // What the line does with a payload that was said.
 #[derive(Clone, Copy)]
@@ -22,61 +19,30 @@ pub struct Tricky {
     pub foreign: [u8; 221],
 }
 
-// What comes of a payload that was said.
-fn turned(
-    trick: Trick,
-    said: &[u8; 221],
-    last: &[u8; 221],
-    foreign: &[u8; 221],
-) -> Option<[u8; 221]> {
-    match trick {
-        Trick::Bring => Some(*said),
-        Trick::Lose => None,
-        Trick::Repeat => Some(*last),
-        Trick::Foreign => Some(*foreign),
+impl Tricky {
+    // What comes of a payload that was said.
+    fn turned(&self, trick: Trick, said: &[u8; 221]) -> Option<[u8; 221]> {
+        match trick {
+            Trick::Bring => Some(*said),
+            Trick::Lose => None,
+            Trick::Repeat => Some(self.last),
+            Trick::Foreign => Some(self.foreign),
+        }
     }
 }
 
 impl Line for Tricky {
-    ghost comes = { λ _ _. Unit {0} };
+    ghost forth = { λ _ _ _ _. Unit {0} };
+
+    ghost back = { λ _ _ _ _. Unit {0} };
 
     fn down(&mut self, said: &[u8; 221]) -> Option<[u8; 221]> {
-        let comes = turned(self.down, said, &self.last, &self.foreign);
+        let comes = self.turned(self.down, said);
         self.last = *said;
         comes
     }
 
     fn up(&mut self, said: &Option<[u8; 221]>) -> Option<[u8; 221]> {
-        match said {
-            Some(payload) => turned(self.up, payload, &self.last, &self.foreign),
-            None => None,
-        }
-    }
-}
-
-// A station that may be called at any time.
-#[derive(Drop)]
-pub struct Shore<'a> {
-    pub station: Ground<'a>,
-    ghost sound: { Sound station },
-}
-
-impl<'a> Shore<'a> {
-    pub fn heard(&mut self, payload: &[u8; 221]) {
-        self.station.heard(payload);
-    }
-
-    // The answer, if there is one.
-    pub fn answer(&self) -> Option<[u8; 221]> {
-        let mut out = [0u8; 221];
-        if self.station.answer(&mut out) {
-            Some(out)
-        } else {
-            None
-        }
-    }
-
-    pub fn hand_over(&self, out: &mut [u8; 214000]) -> u32 {
-        self.station.hand_over(out)
+        self.turned(self.up, said.as_ref()?)
     }
 }

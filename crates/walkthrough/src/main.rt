@@ -7,6 +7,7 @@ mod frames;
 mod inner;
 mod outer;
 mod show;
+mod spoiling;
 mod way;
 
 fn main(rt: HostRuntime) -> anyhow::Result<()> {

@@ -1,24 +1,30 @@
 // Bits and bytes as text.
-use std::alloc::{AllocError, Global};
+use std::fmt;
 
 // Bits as digits, one behind the other.
-pub fn digits(heap: Global, bits: &[u8]) -> Result<String, AllocError> {
-    let mut s = String::new(heap);
-    for b in bits {
-        s.push(if *b == 0 { '0' } else { '1' })?;
+#[derive(Clone, Copy)]
+pub struct Digits<'a>(pub &'a [u8]);
+
+impl fmt::Display for Digits<'_> {
+    fn fmt<W: fmt::Write>(&self, f: &mut fmt::Formatter<W>) -> fmt::Result {
+        for bit in self.0 {
+            write!(f, "{bit}")?;
+        }
+        Ok(())
     }
-    Ok(s)
 }
 
 // Bytes as pairs of hexadecimal digits, with a space between two bytes.
-pub fn hex(heap: Global, bytes: &[u8]) -> Result<String, AllocError> {
-    let mut s = String::new(heap);
-    for (i, b) in bytes.iter().enumerate() {
-        if i > 0 {
-            s.push(' ')?;
+#[derive(Clone, Copy)]
+pub struct Hex<'a>(pub &'a [u8]);
+
+impl fmt::Display for Hex<'_> {
+    fn fmt<W: fmt::Write>(&self, f: &mut fmt::Formatter<W>) -> fmt::Result {
+        let mut between = "";
+        for byte in self.0 {
+            write!(f, "{between}{byte:02x}")?;
+            between = " ";
         }
-        let pair = format!(in heap; "{b:02x}")?;
-        s.push_str(pair.as_str())?;
+        Ok(())
     }
-    Ok(s)
 }
