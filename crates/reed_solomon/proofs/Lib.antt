@@ -1,2 +1,2 @@
-mod Vanish
+mod Parts
 pub mod Small

@@ -3,12 +3,12 @@ use Rattle.std.proofs.Common.{◌≡◌, ℕ, zero, suc, ◌<◌, T, List, lengt
 use Rattle.bits.specs.Lists.{under, are_bytes, zeros}
 use Rattle.bits.specs.Distance.{distance}
 use Rattle.bits.proofs.Hamming.{distance_self}
+use Rattle.bits.proofs.Tests.{length-zeros}
 use Rattle.rs_theory.specs.Code.{is_codeword}
 use Rattle.rs_theory.proofs.Sum.{sum_zeros}
 use Rattle.rs_theory.proofs.Value.{locators, sums-vanish}
 use Rattle.rs_theory.proofs.Codewords.{codeword-from, nearest}
 use Rattle.reed_solomon.specs.Repair.{Repaired, SmallCases}
-use Rattle.reed_solomon.proofs.Vanish.{length-zeros}
 
 bytes-zeros : (n : ℕ) → T (are_bytes (zeros n))
 unfolding zeros under

@@ -40,6 +40,7 @@ fn step(register: &[u8; 32], m: u8) -> [u8; 32]
 }
 
 // The message and the register.
+#[tactic(auto, using(crate::proofs::Parts::long_enough, crate::proofs::Parts::both_written))]
 fn joined(message: &[u8; 223], register: &[u8; 32]) -> [u8; 255]
     ensures { result ≡ message.now ++ register.now }
 {

@@ -27,12 +27,6 @@ unfolding combine
 combine-end c j u v whole h e =
     sym (ap₂ (λ (a b : List ℕ). a ++ combine c b (drop j v)) (take_all j u h) (drop_all j u h) ∙ append-nil u) ∙ e
 
--- Horner's rule from the last coefficient back
-pub evaluate-step : (l : List ℕ) (x j value : ℕ) → j < length l → value ≡ evaluate (drop (j + 1) l) x → get_or l j 0 ⊕ (x ⊙ value) ≡ evaluate (drop j l) x
-unfolding evaluate
-evaluate-step l x j value h e =
-    ap (λ (n : ℕ). get_or l j 0 ⊕ (x ⊙ n)) e ∙ sym (ap (λ (a : List ℕ). evaluate a x) (drop_more l j 0 h))
-
 evaluate-none : (l : List ℕ) (x : ℕ) → ((j : ℕ) → get_or l j 0 ≡ 0) → evaluate l x ≡ 0
 unfolding evaluate
 evaluate-none [] x f = refl

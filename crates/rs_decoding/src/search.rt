@@ -33,7 +33,7 @@ fn add_multiple(vector: &mut [u8; 17], factor: u8, other: &[u8; 17])
 }
 
 // Makes the vector orthogonal to one row after the other, by means of the pivots. Some: the first row that has none and that it is not orthogonal to, and the product with it.
-// The three stand beside one another, and the bound on the rows in three contracts: they meet in this one private function.
+// Pivots, syndromes and rows stay parameters, and their bound a clause each time: they meet in this one private function alone.
 fn reduce(
     vector: &mut [u8; 17],
     pivots: &[Option<Pivot>; 16],

@@ -16,6 +16,3 @@ returns-then-all_zero c =
           let e : code ≡ w = nearest code w w u t c.told-bytes near (omega arith) in
           (ap Some (sym (ap (λ (v : List ℕ). distance v w) e ∙ none)), sym e);
     }
-
-pub candidate-requires : goal.candidate-requires
-candidate-requires c = λ j h. c.values_at_powers-s.ensures j h ∙ c.residue-rest.ensures.values j h

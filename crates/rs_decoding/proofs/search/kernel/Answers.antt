@@ -3,10 +3,10 @@ use Rattle.rs_decoding.specs.Search.{Topped}
 use Rattle.rs_decoding.proofs.Reduce.{topped-unit, no-pivots, pivots-more}
 use Rattle.rs_decoding.proofs.search.kernel.Goals as goal
 
-pub reduce-requires : goal.reduce-requires
-reduce-requires c =
+pub reduce-requires-clause-topped : goal.reduce-requires-clause-topped
+reduce-requires-clause-topped c =
     let P : ℕ → Type 0 = λ k. Topped k (set (replicate 17 0) c.loop-degree.degree 1) in
-    record { few = c.requires; pivots = c.loop-degree.invariant.2; topped = subst P (sym c.loop-degree.invariant.1) (topped-unit 17 c.loop-degree.degree (omega arith)) }
+    subst P (sym c.loop-degree.invariant.1) (topped-unit 17 c.loop-degree.degree (omega arith))
 
 pub loop-degree-init : goal.loop-degree-init
 loop-degree-init c = let none = no-pivots c.args.rows 16 c.args.s.now in (refl, none.1, none.0)

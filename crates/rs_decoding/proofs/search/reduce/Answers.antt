@@ -1,4 +1,4 @@
-use Rattle.std.proofs.Common.{◌≡◌, ℕ, ◌+◌, ◌<◌, List, None, sym, ◌∙◌, subst, arith}
+use Rattle.std.proofs.Common.{ℕ, ◌+◌, ◌<◌, List, None, sym, ◌∙◌, subst, arith}
 use Rattle.std.proofs.lemmas.List.{get_or-take, length-take-le}
 use Rattle.rs_decoding.specs.Search.{Reduced, pivot_count}
 use Rattle.rs_decoding.proofs.Bytes.{bytes-all}
@@ -25,19 +25,3 @@ loop-i-preserved c =
           c.dot_product-d.ensures w.quotient.ensures w.add_multiple.ensures c.loop-i.invariant)
       | else-d-ne0 w ↦ subst P (sym w.vector-is) (reduced-more i k s c.loop-i.vector c.loop-i.invariant (sym c.dot_product-d.ensures ∙ w.if-d-ne0.false))
     ]
-
-pub returns-in-None : goal.returns-in-None
-returns-in-None c =
-    let row : c.loop-i.i < c.args.rows = omega (arith, length-take-le c.args.rows c.args.pivots.now (omega arith)) in
-    record {
-      row = row;
-      free = sym (get_or-take c.args.rows c.args.pivots.now c.loop-i.i None row) ∙ c.in-None.is;
-      here = sym c.dot_product-d.ensures;
-      nonzero = c.if-d-ne0.true;
-      reduced = c.loop-i.invariant;
-    }
-
-pub returns : goal.returns
-returns c =
-    let end : c.loop-i.i ≡ c.args.rows = omega (arith, length-take-le c.args.rows c.args.pivots.now (omega arith)) in
-    subst (λ (n : ℕ). Reduced n (pivot_count c.args.pivots.now) c.args.s.now c.loop-i.vector) end c.loop-i.invariant
