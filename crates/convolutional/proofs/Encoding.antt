@@ -1,17 +1,8 @@
 -- The encoder's loop: what is written, and what is to come of the bits that are left, is what all bits are sent as. Assumes nothing.
-use Rattle.std.proofs.Common.{◌≡◌, ℕ, ◌+◌, ◌*◌, ◌<◌, ◌≤◌, false, T, Iter, List, [], ◌∷◌, ◌++◌, length, get_or, take, drop, set, sym, ap, ◌∙◌, arith}
-use Rattle.std.proofs.lemmas.List.{take_more_set, drop_more, append_assoc, length-set, take_all, drop_all, append-nil, get_or_default}
-use Rattle.std.specs.declared.iter.Chain.{Chain}
-use Rattle.std.specs.declared.iter.Enumerate.{Enumerate}
-use Rattle.std.specs.Slice.Iter.{iter_rest}
-use Rattle.std.specs.Iterator.Adapters.{enumerate_source, enumerate_count, enumerate_steps, chain_first, chain_second, chain_first_done, chain_second_done, chain_steps}
-use Rattle.std.specs.List.{enumerate_from}
-use Rattle.std.proofs.iter.Yields.{fronts}
-use Rattle.std.proofs.lemmas.Iterator.{YieldsList, YieldsList-from_slice}
-use Rattle.std.proofs.lemmas.Iterator.Consumers.{YieldsList-at, YieldsList-from_chain, YieldsList-from_enumerate}
-use Rattle.std.proofs.lemmas.List.FromFn.{length-enumerate_from, get_or-enumerate_from}
+use Rattle.std.proofs.Common.{◌≡◌, ℕ, zero, suc, ◌+◌, ◌-◌, ◌*◌, ◌<◌, ◌≤◌, T, List, [], ◌∷◌, ◌++◌, length, get_or, take, drop, set, sym, refl, ap, ◌∙◌, arith}
+use Rattle.std.proofs.lemmas.List.{take_more_set, drop_more, append_assoc, length-set, take_all, drop_all, append-nil, get_or-append_right}
 use Rattle.bits.specs.Lists.{are_bits, zeros}
-use Rattle.bits.proofs.Tests.{under-get_or, under-append, under-zeros}
+use Rattle.conv_theory.proofs.Basics.{first_bit, rest-bits}
 use Rattle.conv_theory.specs.Code.{deep, first_out, second_out, next, spread}
 
 -- after i bits, in state s
@@ -42,36 +33,21 @@ written_all full out i s h k w =
     let d : spread deep s (drop i full) ≡ [] = ap (λ (u : List ℕ). spread deep s u) (drop_all i full k) in
     sym (ap (λ (u : List ℕ). u ++ spread deep s (drop i full)) (take_all (2 * i) out h) ∙ ap (λ (u : List ℕ). out ++ u) d ∙ append-nil out) ∙ w
 
--- what the loop goes over
-pub road : {s : Enumerate (Chain (Iter ℕ) (Iter ℕ))} {t : Chain (Iter ℕ) (Iter ℕ)} (xs ys : List ℕ) → enumerate_source s ≡ t → iter_rest (chain_first t) ≡ xs → iter_rest (chain_second t) ≡ ys →
-    chain_first_done t ≡ false → chain_second_done t ≡ false → enumerate_count s ≡ 0 → YieldsList (enumerate_steps (chain_steps fronts fronts)) (λ p. (p.0, p.1.now)) s (enumerate_from 0 (xs ++ ys))
-road xs ys source first second first_done second_done count =
-    YieldsList-from_enumerate (YieldsList-at source (YieldsList-from_chain (YieldsList-from_slice xs first) (YieldsList-from_slice ys second) first_done second_done)) count
+zero-at : (n i : ℕ) → get_or (zeros n) i 0 ≡ 0
+unfolding zeros
+zero-at zero i = refl
+zero-at (suc n) zero = refl
+zero-at (suc n) (suc i) = zero-at n i
 
--- the turn at place i
-pub record Turn (bits : List ℕ) (k i b : ℕ) : Type 0 where
-  pub place : i ≡ k
-  pub bit : get_or (bits ++ zeros 6) k 0 ≡ b
-  pub within : k < length (bits ++ zeros 6)
-  pub small : b < 2
+pub zero-behind : (bs : List ℕ) (i : ℕ) → length bs ≤ i → get_or (bs ++ zeros 6) i 0 ≡ 0
+zero-behind bs i h = get_or-append_right bs (zeros 6) (length bs) i 0 refl h ∙ zero-at 6 (i - length bs)
 
-pub turn-is : (bits : List ℕ) (k i b : ℕ) → T (are_bits bits) → (k < length (enumerate_from 0 (bits ++ zeros 6))) × ((i, b) ≡ get_or (enumerate_from 0 (bits ++ zeros 6)) k (i, b)) → Turn bits k i b
-turn-is bits k i b binary t =
-    let full = bits ++ zeros 6 in
-    let h : k < length full = omega (arith, length-enumerate_from 0 full, t.0) in
-    let e : (i, b) ≡ (0 + k, get_or full k b) = t.1 ∙ get_or-enumerate_from 0 full k (i, b) h in
-    let f : b ≡ get_or full k 0 = ap (λ (p : ℕ × ℕ). p.1) e ∙ get_or_default full k b 0 h in
-    let l = under-get_or 2 k 0 full (omega arith) (under-append 2 bits (zeros 6) binary (under-zeros 2 6 (omega arith))) in
-    let z : 0 + k ≡ k = omega arith in
-    record { place = ap (λ (p : ℕ × ℕ). p.0) e ∙ z; bit = sym f; within = h; small = omega (arith, f, l) }
+pub bit-within : (bs : List ℕ) (i : ℕ) → T (are_bits bs) → get_or bs i 0 < 2
+bit-within [] i t = omega arith
+bit-within (b ∷ bs) zero t = first_bit b bs t
+bit-within (b ∷ bs) (suc i) t = bit-within bs i (rest-bits b bs t)
 
 -- the same, of numbers that are computed otherwise
 pub written_step : (full out : List ℕ) (i s b f g t : ℕ) → 2 * i + 1 < length out → i < length full → get_or full i 0 ≡ b →
     f ≡ first_out deep s b → g ≡ second_out deep s b → t ≡ next deep s b → Written full out i s → Written full (set (set out (2 * i) f) (2 * i + 1) g) (i + 1) t
 written_step full out i s b f g t h k e ef eg et w = rw (ef, eg, et) (written-more full out i s b h k e w)
-
-pub written-turn : (bits out : List ℕ) (k i b s f g t m : ℕ) → Turn bits k i b → m ≡ k + 1 → 2 * k + 1 < length out →
-    f ≡ first_out deep s b → g ≡ second_out deep s b → t ≡ next deep s b → Written (bits ++ zeros 6) out k s → Written (bits ++ zeros 6) (set (set out (2 * i) f) (2 * i + 1) g) m t
-written-turn bits out k i b s f g t m turn em h ef eg et w =
-    let e : i ≡ k = turn.place in
-    rw (e, em) (written_step (bits ++ zeros 6) out k s b f g t h turn.within turn.bit ef eg et w)

@@ -1,8 +1,8 @@
 // Two bits for each bit, from the last seven, and six zeros behind.
-ghost use Rattle.std.specs.Prelude.{◌≡◌, ℕ, ◌+◌, ◌*◌, ◌<◌, true, false, T, length, is_ok, Err, MatchResult, ◌≢◌, bit_and};
+ghost use Rattle.std.specs.Prelude.{◌≡◌, ℕ, ◌+◌, ◌*◌, ◌<◌, true, false, T, length, is_ok, Err, MatchResult, ◌≢◌, bit_and, slice_set};
 ghost use Rattle.bits.specs.declared.Refusal.TheVariants.{NoFrame, WrongMemory};
 ghost use Rattle.bits.specs.Lists.{are_bits};
-ghost use Rattle.conv_theory.specs.Code.{parity as parity_of, sent as sent_as};
+ghost use Rattle.conv_theory.specs.Code.{deep, first_out, second_out, next as next_state, parity as parity_of, sent as sent_as};
 
 use crate::lengths::{all_bits, sent_as};
 use bits::Refusal;
@@ -28,19 +28,34 @@ fn outputs(window: u8) -> (u8, u8)
     (parity(window & FIRST), parity(window & SECOND))
 }
 
-// The bits, and zeros behind the last. `out` is written by index: of what `chunks_exact_mut` lends out a proof keeps only the length.
+// What goes out for one bit more, at place i. Answers the state behind it.
+fn put_pair(out: &mut [u8], i: usize, state: u8, bit: u8) -> u8
+    requires room { 2 * i + 1 < length out.old }
+    requires known { state < 64 }
+    requires binary { bit < 2 }
+    ensures written { out.new ≡ slice_set (slice_set out.old (2 * i) (first_out deep state bit)) (2 * i + 1) (second_out deep state bit) }
+    ensures next { result ≡ next_state deep state bit }
+    ensures small { result < 64 }
+{
+    let window = state + 64 * bit;
+    let (first, second) = outputs(window);
+    out[2 * i] = first;
+    out[2 * i + 1] = second;
+    window / 2
+}
+
+// The bits, and zeros behind the last. In two loops: a chain's test whether the first part is done costs a third more time. `out` is written by index: of what `chunks_exact_mut` lends out a proof keeps only the length.
 fn spread_into(bits: &[u8], out: &mut [u8])
     requires long { length out.old ≡ 2 * (length bits.now + 6) }
     requires binary { T (are_bits bits.now) }
     ensures { out.new ≡ sent_as bits.now }
 {
     let mut state: u8 = 0;
-    for (i, bit) in bits.iter().chain(&[0; 6]).enumerate() {
-        let window = state + 64 * *bit;
-        let (first, second) = outputs(window);
-        out[2 * i] = first;
-        out[2 * i + 1] = second;
-        state = window / 2;
+    for (i, bit) in bits.iter().enumerate() {
+        state = put_pair(out, i, state, *bit);
+    }
+    for i in bits.len()..bits.len() + 6 {
+        state = put_pair(out, i, state, 0);
     }
 }
 

@@ -1,9 +1,11 @@
-use Rattle.std.proofs.Common.{◌<◌, ◌++◌, length}
+-- What is written, with what is to come, is what all bits are sent as.
+use Rattle.std.proofs.Common.{◌<◌, ◌++◌}
 use Rattle.bits.specs.Lists.{zeros}
 use Rattle.convolutional.proofs.Encoding.{Written}
 use Rattle.convolutional.proofs.encoder.spread_into.Given as goal
 
 abbrev pub invariant-loop-i : goal.invariant-loop-i
-invariant-loop-i l =
-    (goal.iterator-loop-i).can_next l.i-iterator × (goal.iterator-loop-i).is_finite l.i-iterator × (l.state < 64) ×
-    Written (l.bits ++ zeros 6) l.out (length l.yielded) l.state
+invariant-loop-i l = (l.state < 64) × Written (l.bits ++ zeros 6) l.out l.i l.state
+
+abbrev pub invariant-loop-i-2 : goal.invariant-loop-i-2
+invariant-loop-i-2 l = (l.state < 64) × Written (l.bits ++ zeros 6) l.out l.i l.state
