@@ -29,11 +29,20 @@ pub fn repair(word: &mut [u8], changed: &mut u32) -> Result<Option<usize>, Refus
     Ok(found)
 }
 
-// The bits whose coded bits are nearest to those heard, and at how many places they differ.
-pub fn decode(heard: &[u8], out: &mut [u8], cost: &mut u32) -> Result<(), Refusal>
+// The same of buffers that have their lengths. Apart, so that the memory for decisions is cleared behind the tests alone.
+fn search(heard: &[u8; 4092], out: &mut [u8; 2040], cost: &mut u32) -> Result<(), Refusal>
     ensures { Decodes heard.now out.old out.new cost.old cost.new (outcome result) }
 {
     let mut decisions = [[0u8; 64]; 2046];
     *cost = convolutional::decode_hard(heard, &mut decisions, out)?;
     Ok(())
+}
+
+// The bits whose coded bits are nearest to those heard, and at how many places they differ.
+pub fn decode(heard: &[u8], out: &mut [u8], cost: &mut u32) -> Result<(), Refusal>
+    ensures { Decodes heard.now out.old out.new cost.old cost.new (outcome result) }
+{
+    let heard = heard.as_array::<4092>().ok_or(Refusal::WrongMemory)?;
+    let out = out.as_mut_array::<2040>().ok_or(Refusal::WrongMemory)?;
+    search(heard, out, cost)
 }

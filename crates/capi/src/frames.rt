@@ -1,5 +1,6 @@
 // Frames: sent and heard.
-ghost use Rattle.frame.specs.Hearing.{answer};
+ghost use Rattle.std.specs.Prelude.{◌≡◌};
+ghost use Rattle.frame.specs.Hearing.{answer, left};
 ghost use Rattle.capi.specs.Calls.{Sends, Hearing, outcome};
 
 use bits::Refusal;
@@ -15,9 +16,10 @@ pub fn send(payload: &[u8], bits: &mut [u8]) -> Result<(), Refusal>
 }
 
 // What is heard in the bits: a payload, or zeros where there is none.
-#[tactic(auto, using(crate::proofs::Told::heard), unfolding(bits::specs::Lists::zeros))]
+#[tactic(auto, using(crate::proofs::Told::heard, crate::proofs::Told::left_behind), unfolding(bits::specs::Lists::zeros))]
 pub fn hear(bits: &[u8], payload: &mut [u8]) -> Result<Option<[u8; 221]>, Refusal>
-    ensures { Hearing bits.now payload.old payload.new (answer result) }
+    ensures left { payload.new ≡ left payload.old result }
+    ensures heard { Hearing bits.now payload.old payload.new (answer result) }
 {
     let payload = payload.as_mut_array::<221>().ok_or(Refusal::WrongMemory)?;
     let heard = frame::hear(bits)?;
