@@ -44,7 +44,7 @@ fn put_pair(out: &mut [u8], i: usize, state: u8, bit: u8) -> u8
     window / 2
 }
 
-// The bits, and zeros behind the last. In two loops: a chain's test whether the first part is done costs a third more time. `out` is written by index: of what `chunks_exact_mut` lends out a proof keeps only the length.
+// The bits, and zeros behind the last. In two loops: over a chain of both, encoding takes twice the time. `out` is written by index: of what `chunks_exact_mut` lends out a proof keeps only the length.
 fn spread_into(bits: &[u8], out: &mut [u8])
     requires long { length out.old ≡ 2 * (length bits.now + 6) }
     requires binary { T (are_bits bits.now) }
