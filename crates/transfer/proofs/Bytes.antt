@@ -1,10 +1,41 @@
 -- Lists of bytes: a body that is cut at the payload's end, zeros behind, and a payload written out. Assumes nothing.
-use Rattle.std.proofs.Common.{◌≡◌, ℕ, zero, suc, ◌+◌, ◌-◌, ◌/◌, ◌%◌, ◌≤◌, List, ◌∷◌, ◌++◌, length, take, drop, sym, refl, ap, ◌∙◌, append-nil, arith}
+use Rattle.std.proofs.Common.{◌≡◌, ℕ, zero, suc, ◌+◌, ◌-◌, ◌/◌, ◌%◌, ◌*◌, ◌≤◌, min, List, [], ◌∷◌, ◌++◌, length, take, drop, sym, refl, ap, ◌∙◌, inl, inr, append-nil, arith, length-drop, take_all}
 use native.Mathlib.Nat.{zero-sub, sub-zero}
 use lib.Seq.{take-append-add}
 use borrow.Rule.Slice.PartMut.{put_mid}
 use Rattle.bits.specs.Lists.{zeros}
+use Rattle.std.proofs.lemmas.Bool.{cases_lt}
 use Rattle.transfer_theory.specs.Payload.{filled, built, payload}
+use Rattle.transfer_theory.specs.Parts.{part}
+
+-- all that is there, where that is less than is asked
+take-cut : (xs : List ℕ) (a k : ℕ) → k ≡ min a (length xs) → take k xs ≡ take a xs
+take-cut xs a k z =
+    elim (cases_lt (length xs) a) [
+      | inl h ↦ take_all k xs (omega arith) ∙ sym (take_all a xs (omega arith))
+      | inr h ↦ let q : k ≡ a = omega arith in ap (λ (j : ℕ). take j xs) q
+    ]
+
+-- a part as a range of the file that ends with it
+pub part_range : (f : List ℕ) (i e : ℕ) → e ≡ min (214 * i + 214) (length f) → 214 * i ≤ length f → take (e - 214 * i) (drop (214 * i) f) ≡ part f i
+part_range f i e q h = let l = length-drop (214 * i) f in take-cut (drop (214 * i) f) 214 (e - 214 * i) (omega arith)
+
+pub take_min : (a b : ℕ) (xs : List ℕ) → take a (take b xs) ≡ take (min a b) xs
+take_min zero b xs = let q : 0 ≡ min 0 b = omega arith in ap (λ (k : ℕ). take k xs) q
+take_min (suc a) zero xs = let q : 0 ≡ min (suc a) 0 = omega arith in ap (λ (k : ℕ). take k xs) q
+take_min (suc a) (suc b) [] = let q : suc (min a b) ≡ min (suc a) (suc b) = omega arith in ap (λ (k : ℕ). take k []) q
+take_min (suc a) (suc b) (x ∷ xs) =
+    let q : suc (min a b) ≡ min (suc a) (suc b) = omega arith in ap (λ (ys : List ℕ). x ∷ ys) (take_min a b xs) ∙ ap (λ (k : ℕ). take k (x ∷ xs)) q
+
+-- a count above what is there takes what is there
+pub body-cut : (p : List ℕ) (c m : ℕ) → length p ≡ 221 → m ≡ min c 214 → take c (drop 7 p) ≡ take (7 + m - 7) (drop 7 p)
+body-cut p c m e q = go (length-drop 7 p ∙ ap (λ (k : ℕ). k - 7) e)
+  where
+    z : 7 + m - 7 ≡ min c 214
+    z = omega arith
+
+    go : length (drop 7 p) ≡ 214 → take c (drop 7 p) ≡ take (7 + m - 7) (drop 7 p)
+    go l = ap (λ (xs : List ℕ). take c xs) (sym (take_all 214 (drop 7 p) (omega arith))) ∙ take_min c 214 (drop 7 p) ∙ ap (λ (k : ℕ). take k (drop 7 p)) (sym z)
 
 pub drop-zeros : (n m : ℕ) → drop n (zeros m) ≡ zeros (m - n)
 unfolding zeros

@@ -73,11 +73,17 @@ impl Vessel {
     }
 
     // The part at its place, if that is not past the last.
+    #[tactic(auto, using(crate::proofs::Bytes::part_range))]
     fn part(&self) -> Option<&[u8]>
         ensures short { IfSome result (λ b. length b.now ≤ 214) }
         ensures value { MatchOption result (parts self.now.bytes ≤ self.now.place) (λ b. (self.now.place < parts self.now.bytes) × (b.now ≡ part self.now.bytes self.now.place)) }
     {
-        self.content.chunks(PART).nth(usize::from(self.place))
+        if self.place >= self.parts() {
+            return None;
+        }
+        let from = PART * usize::from(self.place);
+        let to = (from + PART).min(self.content.len());
+        Some(&self.content[from..to])
     }
 
     // What it says next: the part at its place, or the end.
