@@ -1,6 +1,7 @@
 // The real ends under the names that programs use: the radio and the ship in one value.
 ghost use Rattle.std.specs.Prelude.{◌≡◌, [], IfOk};
 ghost use Rattle.transfer_theory.specs.Sender.{new_sender};
+ghost use Rattle.transfer.specs.Shapes.{InRoom};
 
 use bits::Refusal;
 use frame::Radio;
@@ -60,7 +61,11 @@ impl Ship for TheLink {
         self.vessel.heard(payload);
     }
 
-    fn done(&self) -> bool {
+    // Whether it was told that all is there. The clause room says what any ship keeps.
+    fn done(&self) -> bool
+        ensures told { result ≡ self.now.done }
+        ensures room { InRoom self.now }
+    {
         self.vessel.done()
     }
 }

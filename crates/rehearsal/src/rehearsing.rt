@@ -3,6 +3,7 @@ ghost use Rattle.std.specs.Prelude.{◌≡◌, ◌<◌, ◌≤◌, true, ◌⊎�
 ghost use Rattle.bits.specs.Refusals.{number as code};
 ghost use Rattle.transfer_theory.specs.Receiver.{complete, handed_count, handed_into};
 ghost use Rattle.transfer.specs.Memory.{filled};
+ghost use Rattle.transfer.specs.Shapes.{Shaped};
 ghost use Rattle.transfer.specs.Stations.{count_of};
 ghost use Rattle.rehearsal.specs.Rehearsed.{Rehearsed, GoesOn, report_of};
 
@@ -80,9 +81,11 @@ impl<'a> Rehearsal<'a> {
         );
     }
 
-    // How many parts the station has.
+    // How many parts the station has. The clause shape says what any station keeps.
     pub fn parts_there(&self) -> usize
-        ensures { result ≡ filled self.now.receiver.slots }
+        ensures value { result ≡ filled self.now.receiver.slots }
+        ensures within { result ≤ 1000 }
+        ensures shape { Shaped self.now.receiver }
     {
         self.station.parts_there()
     }

@@ -1,13 +1,14 @@
 -- Memory as slots: what a write of a part and what clearing does to them. Assumes nothing.
-use Rattle.std.proofs.Common.{subst, ◌≡◌, ℕ, zero, suc, ◌+◌, ◌*◌, ◌<◌, ◌≤◌, Bool, true, false, cond, ltb, not, ◌&&◌, Option, Some, None, count_by, position, [], ◌⊎◌, List, ◌∷◌, ◌++◌, length, get_or, map, take, drop, set, sym, refl, ap, ◌∙◌, inl, inr, arith, length-set, length-take-le, get_or-set_other, get_or-set_same, take-take, take_at, drop-set-lt, ext_get_or, drop_at, get_or-take, get_or-drop, drop-drop}
+use Rattle.std.proofs.Common.{subst, ◌≡◌, ℕ, zero, suc, ◌+◌, ◌*◌, ◌<◌, ◌≤◌, Bool, true, false, cond, ltb, not, ◌&&◌, Option, Some, None, count_by, position, [], ◌⊎◌, List, ◌∷◌, ◌++◌, length, get_or, map, take, drop, set, sym, refl, ap, ◌∙◌, inl, inr, arith, length-set, length-take, length-take-le, get_or-set_other, get_or-set_same, take-take, take_at, drop-set-lt, ext_get_or, drop_at, get_or-take, get_or-drop, drop-drop}
 use Rattle.std.proofs.lemmas.Bool.{cases_eq, cases_lt, cases_order, cond-true, cond-false, and_from, and_left, and_right, lt-ltb, le-ltb, ltb-true, ltb-false, cond_both}
 use Rattle.std.specs.Simd.{first_chunks}
 use Rattle.std.specs.List.{position_or_len}
-use Rattle.std.proofs.lemmas.List.Sums.{prefix_len-le-length}
+use Rattle.std.proofs.lemmas.List.Sums.{prefix_len-le-length, count_by-le-length}
 use Rattle.std.proofs.lemmas.List.Recursion.{is_count_by}
 use Rattle.std.proofs.lemmas.List.{drop-take}
 use Rattle.transfer_theory.specs.Receiver.{Slot, Missing, Have, missing, empty_of, first_missing}
 use Rattle.transfer.specs.Memory.{slot_of, slot_read, free, slot_in, slots_from, slots_of, overwritten, filled, with_part, IsGap}
+use Rattle.transfer.specs.Shapes.{Narrow, Slotted}
 use Rattle.transfer.proofs.Places.{stretch-same, length-overwritten, over-before, over-behind}
 
 pub length-slots : (i n : ℕ) (m : List ℕ) → length (slots_from i n m) ≡ n
@@ -20,6 +21,20 @@ unfolding slots_from
 slots-from-at i zero m k h = let z : ⊥ = omega arith in absurd z
 slots-from-at i (suc n) m zero h = let q : i ≡ i + 0 = omega arith in ap (λ (j : ℕ). slot_in m j) q
 slots-from-at i (suc n) m (suc k) h = let q : i + 1 + k ≡ i + suc k = omega arith in slots-from-at (i + 1) n m k (omega arith) ∙ ap (λ (j : ℕ). slot_in m j) q
+
+-- ---- 1,000 slots, in each at most 214 bytes
+narrow-slot : (c : ℕ) (xs : List ℕ) → Narrow (slot_of c (take 214 xs))
+narrow-slot zero xs = tt
+narrow-slot (suc c) xs = let a = length-take c (take 214 xs) in let b = length-take 214 xs in omega arith
+
+narrow-from : (i n : ℕ) (m : List ℕ) (k : ℕ) (d : Slot) → k < n → Narrow (get_or (slots_from i n m) k d)
+unfolding slots_from
+narrow-from i zero m k d h = let z : ⊥ = omega arith in absurd z
+narrow-from i (suc n) m zero d h = narrow-slot (get_or m (215 * i) 0) (drop (215 * i + 1) m)
+narrow-from i (suc n) m (suc k) d h = narrow-from (i + 1) n m k d (omega arith)
+
+pub slotted : (m : List ℕ) → Slotted (slots_of m)
+slotted m = let l = length-slots 0 1000 m in (l, λ k d h. narrow-from 0 1000 m k d (omega arith))
 
 pub slots_at : (m : List ℕ) (k : ℕ) → k < 1000 → get_or (slots_of m) k Missing ≡ slot_in m k
 slots_at m k h = let q : 0 + k ≡ k = omega arith in slots-from-at 0 1000 m k h ∙ ap (λ (j : ℕ). slot_in m j) q
@@ -184,3 +199,6 @@ filled_is cs = is_count_by (λ (us : List (List ℕ)). filled (map slot_read us)
     go : (b : Bool) (n : ℕ) → cond b 0 1 + n ≡ cond (not b) (1 + n) n
     go true n = omega arith
     go false n = omega arith
+
+pub filled_within : (n : ℕ) (cs : List (List ℕ)) → n ≡ count_by (λ (c : List ℕ). not (free c)) cs → length cs ≡ 1000 → n ≤ 1000
+filled_within n cs e h = let l = count_by-le-length (λ (c : List ℕ). not (free c)) cs in omega arith

@@ -2,6 +2,7 @@
 ghost use Rattle.std.specs.Prelude.{◌≡◌, ◌+◌, ◌-◌, ◌*◌, ◌<◌, ◌≤◌, ◌++◌, length, map, take, drop, slice_set, position, MatchOption};
 ghost use Rattle.transfer_theory.specs.Receiver.{Missing, Have, missing, joined};
 ghost use Rattle.transfer.specs.Memory.{slots_of, slot_read, free, filled, IsGap, with_part, overwritten};
+ghost use Rattle.transfer.specs.Shapes.{Slotted};
 
 use crate::message::PART;
 use std::marker::Model;
@@ -103,14 +104,17 @@ impl<'a> Slots<'a> {
     fn all(&self) -> &[[u8; SLOT]]
         ensures slots { map slot_read result.now ≡ self.now }
         ensures count { length result.now ≡ 1000 }
+        ensures shape { Slotted self.now }
     {
         self.memory.as_chunks::<SLOT>().0
     }
 
     // How many are filled.
-    #[tactic(auto, using(crate::proofs::Slotted::filled_is))]
+    #[tactic(auto, using(crate::proofs::Slotted::filled_is, crate::proofs::Slotted::filled_within))]
     pub(crate) fn filled(&self) -> usize
-        ensures { result ≡ filled self.now }
+        ensures value { result ≡ filled self.now }
+        ensures within { result ≤ 1000 }
+        ensures shape { Slotted self.now }
     {
         self.all()
             .iter()

@@ -5,6 +5,7 @@ ghost use Rattle.transfer_theory.specs.Parts.{parts, part};
 ghost use Rattle.transfer_theory.specs.Sender.{new_sender, says};
 ghost use Rattle.transfer.specs.Messages.{Fits, saying};
 ghost use Rattle.transfer.specs.Heeding.{heeds};
+ghost use Rattle.transfer.specs.Shapes.{InRoom};
 
 use crate::message::{Message, PART, PAYLOAD, parts_of, read};
 use crate::sides::Ship;
@@ -142,7 +143,11 @@ impl Ship for Vessel {
         }
     }
 
-    fn done(&self) -> bool {
+    // Whether it was told that all is there. The clause room says what any ship keeps.
+    fn done(&self) -> bool
+        ensures told { result ≡ self.now.done }
+        ensures room { InRoom self.now }
+    {
         self.done
     }
 }

@@ -6,6 +6,7 @@ ghost use Rattle.transfer_theory.specs.Receiver.{new_receiver, missing, complete
 ghost use Rattle.transfer.specs.Memory.{slots_of, filled};
 ghost use Rattle.transfer.specs.Messages.{Short, Fits, saying};
 ghost use Rattle.transfer.specs.Heeding.{takes_in};
+ghost use Rattle.transfer.specs.Shapes.{Shaped};
 
 pub use crate::memory::MEMORY;
 use crate::memory::{Slots, clear};
@@ -54,9 +55,11 @@ impl<'a> Ground<'a> {
         })
     }
 
-    // How many parts are there.
+    // How many parts are there. The clause shape says what any station keeps.
     pub fn parts_there(&self) -> usize
-        ensures { result ≡ filled self.now.slots }
+        ensures value { result ≡ filled self.now.slots }
+        ensures within { result ≤ 1000 }
+        ensures shape { Shaped self.now }
     {
         self.slots.filled()
     }
