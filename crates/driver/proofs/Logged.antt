@@ -1,6 +1,6 @@
 -- A round more in the driver's log, and what the log promises. Assumes nothing.
-use Rattle.std.proofs.Common.{◌≡◌, ℕ, suc, Option, Some, None, is_some, IfSome, cond, ◌+◌, ◌<◌, ◌≤◌, Bool, true, false, not, ltb, List, [], ◌∷◌, length, sym, refl, ap, ◌∙◌, inl, inr, arith}
-use Rattle.std.proofs.lemmas.Bool.{cases_lt, ltb-true, and_parts, not-true}
+use Rattle.std.proofs.Common.{◌≡◌, ℕ, suc, Option, Some, None, is_some, IfSome, cond, ◌+◌, ◌<◌, ◌≤◌, Bool, true, false, not, ◌&&◌, T, ltb, List, [], ◌∷◌, length, sym, refl, ap, ◌∙◌, subst, inl, inr, arith}
+use Rattle.std.proofs.lemmas.Bool.{cases_lt, lt-ltb, ltb-true, and_parts, not-true}
 use Rattle.bits.specs.Heard.{Heard, Lost, Got, heard_of}
 use Rattle.transfer_theory.specs.Parts.{parts}
 use Rattle.transfer_theory.specs.Sender.{Sender, says, after_saying, told}
@@ -34,6 +34,15 @@ told_nothing o s e = ap (λ (p : Option (List ℕ)). told (heard_of p) s) e
 -- ---- the loop's test, b: the budget is not spent, and the ship is not done
 pub going : {b : Bool} (k n : ℕ) (s : Sender) → b ≡ ongoing k n s → b ≡ true → (k < n) × (s.done ≡ false)
 going k n s e t = let p = and_parts (ltb k n) (not s.done) (sym e ∙ t) in (ltb-true k n p.0, not-true s.done p.1)
+
+over : (b d : Bool) → b ≡ true → (b && not d) ≡ false → d ≡ true
+over true true l e = refl
+over true false l e = sym e
+over false d l e = absurd (subst (λ (t : Bool). T t) (sym l) tt)
+
+-- no round more with budget left: the ship is done
+pub ongoing-over : (k n : ℕ) (s : Sender) → ongoing k n s ≡ false → k < n → s.done ≡ true
+ongoing-over k n s e l = over (ltb k n) s.done (lt-ltb k n l) e
 
 -- ---- the log as it grows
 pub played-none :

@@ -1,11 +1,12 @@
 -- Copying the slots' bytes out, one after the other, up to the length. Assumes nothing.
-use Rattle.std.proofs.Common.{Bor, map, get_or-take, Option, Some, None, MatchOption, ◌≡◌, ℕ, zero, suc, ◌+◌, ◌-◌, ◌<◌, List, [], ◌∷◌, ◌++◌, length, get_or, take, drop, sym, refl, ap, ◌∙◌, inl, inr, append_assoc, append-nil, arith, length-append, length-take, take_all, drop-drop, take_at}
+use Rattle.std.proofs.Common.{Bor, map, get_or-take, Option, Some, None, MatchOption, ◌≡◌, ℕ, zero, suc, ◌+◌, ◌-◌, ◌*◌, ◌<◌, min, List, [], ◌∷◌, ◌++◌, length, get_or, take, drop, sym, refl, ap, ◌∙◌, inl, inr, append_assoc, append-nil, arith, length-append, length-take, take_all, drop-drop, take_at}
 use lib.Seq.{take-append-le, take-append-add, drop-append-add}
 use Rattle.std.proofs.lemmas.Bool.{cases_lt}
 use Rattle.transfer_theory.specs.Receiver.{Slot, Missing, Have, joined}
 use Rattle.std.specs.Option.{unwrap_or}
 use Rattle.std.proofs.lemmas.List.{get_or-map}
-use Rattle.transfer.specs.Memory.{slot_read, overwritten}
+use Rattle.transfer.specs.Memory.{slot_of, slot_in, slot_read, overwritten}
+use Rattle.transfer.proofs.Bytes.{take_min}
 
 -- what a slot adds
 abbrev pub held : Slot → List ℕ
@@ -39,6 +40,20 @@ joined-slot i n cs ss bs h e q =
     ap (λ (s : Slot). joined i ss ++ held s)
     (ap (λ (us : List Slot). get_or us i Missing) (sym e) ∙ get_or-map slot_read cs i [] Missing (omega arith) ∙ ap slot_read (sym (get_or-take n cs i [] (omega arith)))) ∙
     ap (λ (xs : List ℕ). joined i ss ++ xs) q
+
+held-is : (c : ℕ) (xs : List ℕ) → held (slot_of c xs) ≡ take (c - 1) xs
+held-is zero xs = refl
+held-is (suc c) xs = let q : c ≡ suc c - 1 = omega arith in ap (λ (k : ℕ). take k xs) q
+
+-- the bytes of a slot that still have room, as a stretch of the memory
+pub slot-stretch :
+    (m : List ℕ) (i r n : ℕ) → n ≡ min (min (get_or m (215 * i) 0 - 1) 214) r →
+    take (215 * i + 1 + n - (215 * i + 1)) (drop (215 * i + 1) m) ≡ take r (held (slot_in m i))
+slot-stretch m i r n e =
+    let q : 215 * i + 1 + n - (215 * i + 1) ≡ min r (min (get_or m (215 * i) 0 - 1) 214) = omega arith in
+    ap (λ (k : ℕ). take k (drop (215 * i + 1) m)) q ∙ sym (take_min r (min (get_or m (215 * i) 0 - 1) 214) (drop (215 * i + 1) m)) ∙
+    ap (λ (xs : List ℕ). take r xs)
+    (sym (held-is (get_or m (215 * i) 0) (take 214 (drop (215 * i + 1) m)) ∙ take_min (get_or m (215 * i) 0 - 1) 214 (drop (215 * i + 1) m)))
 
 -- ---- a front taken of two lists
 pub take-both : (n : ℕ) (xs ys : List ℕ) → take n (xs ++ ys) ≡ take n xs ++ take (n - length xs) ys

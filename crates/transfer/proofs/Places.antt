@@ -31,6 +31,11 @@ over-before a bs m j h l =
     let t = length-take-le a m h in
     get_or_append_left (take a m) (bs ++ drop (a + length bs) m) 0 j (omega arith) ∙ get_or-take a m j 0 l
 
+pub over-inside : (a : ℕ) (bs m : List ℕ) (j : ℕ) → a ≤ length m → a ≤ j → j < a + length bs → get_or (overwritten a bs m) j 0 ≡ get_or bs (j - a) 0
+over-inside a bs m j h l k =
+    get_or-append_right (take a m) (bs ++ drop (a + length bs) m) a j 0 (length-take-le a m h) l ∙
+    get_or_append_left bs (drop (a + length bs) m) 0 (j - a) (omega arith)
+
 pub over-behind : (a : ℕ) (bs m : List ℕ) (j : ℕ) → a ≤ length m → a + length bs ≤ j → get_or (overwritten a bs m) j 0 ≡ get_or m j 0
 over-behind a bs m j h l =
     let q : a + length bs + (j - a - length bs) ≡ j = omega arith in
