@@ -10,7 +10,7 @@ mod lines;
 
 use bits::Refusal;
 pub use files::{read_file, write_file};
-pub use lines::{answer_lines, print_line};
+pub use lines::{answer_lines, answer_lines_of, print_line};
 use std::alloc::AllocError;
 use std::process::ExitCode;
 use std::{env, fmt, io};

@@ -62,15 +62,28 @@ pub fn print_line(rt: &HostRuntime, line: &Line) -> io::Result<()> {
 // there, or where the input ends, and says which: whether an answer was the last.
 pub fn answer_lines<F: FnMut(&mut Line) -> Result<bool, Failure>>(
     rt: &HostRuntime,
-    mut answer: F,
+    answer: F,
 ) -> Result<bool, Failure>
     requires { F.IsAlwaysCallable answer }
     ensures { IfOk result (λ last. Answered F.step answer last) }
 {
     let mut input = BufReader::new(rt.alloc(), rt.stdin())?;
+    answer_lines_of(rt, &mut input, answer)
+}
+
+// The same for a reader that the caller has made, so that something can be printed between the making, which takes memory, and
+// the first line.
+pub fn answer_lines_of<R: BufRead, F: FnMut(&mut Line) -> Result<bool, Failure>>(
+    rt: &HostRuntime,
+    input: &mut R,
+    mut answer: F,
+) -> Result<bool, Failure>
+    requires { F.IsAlwaysCallable answer }
+    ensures { IfOk result (λ last. Answered F.step answer last) }
+{
     let mut line = Line::new();
     for n in 1..u64::MAX {
-        if !next_line(&mut input, &mut line)? {
+        if !next_line(input, &mut line)? {
             break;
         }
         let last = answer(&mut line).map_err(|failure| {

@@ -7,13 +7,13 @@ ghost use Rattle.ends.specs.Hearing.{LineHeard};
 use bits::Refusal;
 use frame::Radio;
 use link::TheLink;
-use text::{FRAME, Line, read_line};
+use text::{FRAME, Line, read_bits};
 
 // The payload that is heard in a line, or nothing. A line that is neither empty nor a frame is refused.
 pub(crate) fn hear_line(line: &Line) -> Result<Option<[u8; 221]>, Refusal>
     ensures { LineHeard line.now result }
 {
-    match read_line::<FRAME>(line.text())? {
+    match read_bits::<FRAME>(line.text())? {
         None => Ok(None),
         Some(bits) => <TheLink as Radio>::hear(&bits),
     }

@@ -1,7 +1,7 @@
 // Lines made by hand, byte by byte and with nothing of the library's that writes payloads, and what a line says.
 use frame::Radio;
 use link::TheLink;
-use text::{FRAME, Line, read_line};
+use text::{FRAME, Line, read_bits};
 
 // A line of these bytes.
 pub fn line_of(text: &[u8]) -> Line {
@@ -24,7 +24,7 @@ pub fn said_by([kind, file, number, count]: [u8; 4], bytes: [u8; 4]) -> Line {
 
 // The payload that a line says, if it says one.
 fn payload_of(line: &Line) -> Option<[u8; 221]> {
-    let bits = read_line::<FRAME>(line.text()).ok()??;
+    let bits = read_bits::<FRAME>(line.text()).ok()??;
     <TheLink as Radio>::hear(&bits).ok()?
 }
 

@@ -4,6 +4,7 @@
 use console::Failure;
 use ends::{ship_first, ship_turn};
 use link::TheLink;
+use std::io::BufReader;
 use std::process::ExitCode;
 use text::Line;
 use transfer::ship::LONGEST;
@@ -13,10 +14,11 @@ const USAGE: &str =
 
 // The first frame, and then a frame for each line, until the ship is done or the input ends.
 fn sail(rt: &HostRuntime, link: &mut TheLink) -> Result<(), Failure> {
+    let mut input = BufReader::new(rt.alloc(), rt.stdin())?;
     let mut first = Line::new();
     ship_first(link, &mut first);
     console::print_line(rt, &first)?;
-    if console::answer_lines(rt, |line| Ok(ship_turn(link, line)?))? {
+    if console::answer_lines_of(rt, &mut input, |line| Ok(ship_turn(link, line)?))? {
         println!(rt; "done")?;
     }
     Ok(())

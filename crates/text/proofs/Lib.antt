@@ -1,3 +1,4 @@
+pub mod Loops
 pub mod Numerals
 pub mod Chunks
 pub mod Held

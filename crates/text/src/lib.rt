@@ -10,7 +10,7 @@ mod numbers;
 mod spoiling;
 
 pub use line::{FRAME, LONGEST, Line};
-pub use lines::read_line;
+pub use lines::{read_bits, read_line};
 pub use noise::Noise;
 pub use numbers::{chance, file_number, number};
 pub use spoiling::spoil_line;

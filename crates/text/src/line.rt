@@ -1,10 +1,11 @@
 // One line of text, without its newline, as it comes in chunk by chunk. At most 4,093 bytes are kept, one more than a frame has
 // digits, so that a longer line is never taken for a frame.
-ghost use Rattle.std.specs.Prelude.{◌≡◌, [], ◌++◌, ◌==◌, Some, None, if◌then◌else◌, position};
+ghost use Rattle.std.specs.Prelude.{◌≡◌, ◌≤◌, length, [], ◌++◌, ◌==◌, Some, None, if◌then◌else◌, position};
+ghost use Rattle.bits.specs.Lists.{zeros};
 ghost use Rattle.text.specs.Input.{ends, used, kept, grown};
 ghost use Rattle.text.specs.Lines.{digits};
 
-use super::lines::digits_of;
+use super::lines::put_digits;
 use std::marker::Model;
 
 // How many digits a frame has.
@@ -48,7 +49,8 @@ impl Line {
     }
 
     pub fn text(&self) -> &[u8]
-        ensures { result.now ≡ self.now }
+        ensures text { result.now ≡ self.now }
+        ensures within { length result.now ≤ 4093 }
     {
         &self.bytes[..self.count]
     }
@@ -56,7 +58,8 @@ impl Line {
     pub fn clear(&mut self)
         ensures { self.new ≡ [] }
     {
-        *self = Line::new();
+        self.bytes[..self.count].fill(0);
+        self.count = 0;
     }
 
     // Puts bytes behind those that are there, as far as there is room.
@@ -89,13 +92,22 @@ impl Line {
     }
 
     // The digits of a frame's bits, in the place of what was there.
-    #[tactic(auto, using(crate::proofs::Chunks::kept_digits))]
+    #[tactic(auto, using(crate::proofs::Held::filled_frame, crate::proofs::Held::frame_taken))]
     pub fn write(&mut self, bits: &[u8; FRAME])
         ensures { self.new ≡ digits bits.now }
     {
-        self.clear();
-        self.keep(&digits_of(bits));
+        put_frame(bits, &mut self.bytes);
+        self.count = FRAME;
     }
+}
+
+// The digits of a frame's bits, and a zero in the place behind them.
+#[tactic(auto, using(crate::proofs::Held::frame_put), unfolding(bits::specs::Lists::zeros))]
+fn put_frame(bits: &[u8; FRAME], bytes: &mut [u8; LONGEST])
+    ensures { bytes.new ≡ digits bits.now ++ zeros 1 }
+{
+    put_digits(bits, &mut bytes[..FRAME]);
+    bytes[FRAME] = 0;
 }
 
 // The place of the first newline.

@@ -1,9 +1,8 @@
 // Frames as lines of digits 0 and 1. An empty line is nothing heard.
 ghost use Rattle.std.specs.Prelude.{◌≡◌, ◌+◌, ◌*◌, ◌≤◌, ◌&&◌, length};
 ghost use Rattle.text.specs.Lines.{digits, is_digit, are_digits, bits_in};
-ghost use Rattle.text.specs.Reading.{LineRead};
+ghost use Rattle.text.specs.Reading.{LineRead, BitsRead};
 
-use super::line::FRAME;
 use bits::Refusal;
 
 fn is_digit(x: u8) -> bool
@@ -18,33 +17,46 @@ fn all_digits(line: &[u8]) -> bool
     line.iter().all(|x| is_digit(*x))
 }
 
-// The bits of digits. In place, since `map` of an array asks that three arrays fit in memory, which is not known of every N.
-fn bits_in<const N: usize>(line: &[u8; N]) -> [u8; N]
-    ensures { result ≡ bits_in line.now }
+// The bits of digits, of which there are as many as places for them.
+fn put_bits(line: &[u8], out: &mut [u8])
+    requires { length out.old ≡ length line.now }
+    ensures { out.new ≡ bits_in line.now }
 {
-    let mut bits = *line;
-    for x in &mut bits {
-        *x = x.saturating_sub(b'0');
+    for (i, x) in out.iter_mut().enumerate() {
+        *x = line[i].saturating_sub(b'0');
     }
-    bits
 }
 
-// Reads a line, without its newline: nothing where it is empty, and of a frame, which has N digits, its bits. Anything else is refused.
-pub fn read_line<const N: usize>(line: &[u8]) -> Result<Option<[u8; N]>, Refusal>
-    ensures { LineRead N line.now result }
+// Reads a line, without its newline, and says whether it is a frame. A frame has as many digits as there are places for bits; its
+// bits are then there. At an empty line, and where anything else is refused, the memory stays as it was.
+pub fn read_line(line: &[u8], out: &mut [u8]) -> Result<bool, Refusal>
+    ensures { LineRead line.now out.old out.new result }
 {
     if line.is_empty() {
-        return Ok(None);
+        return Ok(false);
     }
-    match <&[u8; N]>::try_from(line) {
-        Ok(frame) if all_digits(frame) => Ok(Some(bits_in(frame))),
-        _ => Err(Refusal::UnknownText),
+    if line.len() != out.len() || !all_digits(line) {
+        return Err(Refusal::UnknownText);
     }
+    put_bits(line, out);
+    Ok(true)
 }
 
-// The digits of a frame's bits.
-pub(crate) fn digits_of(bits: &[u8; FRAME]) -> [u8; FRAME]
-    ensures { result ≡ digits bits.now }
+// The same where a frame has N digits: nothing of an empty line, and of a frame its bits.
+pub fn read_bits<const N: usize>(line: &[u8]) -> Result<Option<[u8; N]>, Refusal>
+    ensures { BitsRead N line.now result }
 {
-    bits.map(|x| b'0' + x % 2)
+    let mut bits = [0; N];
+    let is_frame = read_line(line, &mut bits)?;
+    Ok(is_frame.then_some(bits))
+}
+
+// The digits of bits, of which there are as many as places for them.
+pub(crate) fn put_digits(bits: &[u8], out: &mut [u8])
+    requires { length out.old ≡ length bits.now }
+    ensures { out.new ≡ digits bits.now }
+{
+    for (i, x) in out.iter_mut().enumerate() {
+        *x = b'0' + bits[i] % 2;
+    }
 }

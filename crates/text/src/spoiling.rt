@@ -3,7 +3,7 @@ ghost use Rattle.std.specs.Prelude.{◌≡◌};
 ghost use Rattle.text.specs.Spoiling.{LineSpoiled};
 
 use super::line::{FRAME, Line};
-use super::lines::read_line;
+use super::lines::read_bits;
 use super::noise::Noise;
 use bits::Refusal;
 
@@ -12,7 +12,7 @@ use bits::Refusal;
 pub fn spoil_line(noise: &mut Noise, p: u32, line: &mut Line) -> Result<(), Refusal>
     ensures { LineSpoiled p noise.old.state noise.new.state line.old line.new result }
 {
-    match read_line::<FRAME>(line.text())? {
+    match read_bits::<FRAME>(line.text())? {
         None => {
             noise.pass(FRAME);
             line.clear();

@@ -1,6 +1,6 @@
 -- A line more is a call more, in front of those that lead on.
 use Rattle.std.proofs.Common.{rules, of_calls, false, ◌∷◌, Ok}
-use Rattle.console.proofs.lines.answer_lines.Goals as goal
+use Rattle.console.proofs.lines.answer_lines_of.Goals as goal
 
 pub loop-n-preserved : goal.loop-n-preserved
 loop-n-preserved g c =

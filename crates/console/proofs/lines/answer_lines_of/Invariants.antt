@@ -1,6 +1,6 @@
 -- Calls that lead on from here lead on from the first.
 use Rattle.console.specs.Answers.{WentOn}
-use Rattle.console.proofs.lines.answer_lines.Given as goal
+use Rattle.console.proofs.lines.answer_lines_of.Given as goal
 
 abbrev pub invariant-loop-n : goal.invariant-loop-n
 invariant-loop-n g l =
