@@ -1,10 +1,10 @@
 -- The powers of 2 and the logarithms, as lists; each rule is one computed test. Assumes nothing.
-use Rattle.std.proofs.Common.{◌≡◌, ℕ, zero, suc, ◌+◌, ◌<◌, Bool, true, false, ◌&&◌, ◌||◌, T, eqb, ltb, List, [], ◌∷◌, length, get_or, sym, refl, ap, ◌∙◌, subst, arith, eqb→eq, ltb→lt}
+use Rattle.std.proofs.Common.{◌≡◌, ℕ, zero, suc, ◌+◌, ◌<◌, Bool, true, false, ◌&&◌, ◌||◌, T, eqb, ltb, List, [], ◌∷◌, length, take, get_or, sym, refl, ap, ◌∙◌, subst, arith, eqb→eq, ltb→lt}
 use Rattle.gf256.specs.Field.{product, product_by, power}
 use Rattle.gf256.specs.declared.tables.TheConstants.{EXP, LOG}
 use Rattle.gf256.proofs.Basis.{all_below, at-below, both_left, both_right}
 
--- 2^0 .. 2^254
+-- 2^0 .. 2^509: two rounds
 unfoldable pub cycle : List ℕ
 cycle = EXP
 
@@ -37,7 +37,7 @@ cycle-chained : T (chained 1 cycle)
 unfolding cycle chained product product_by
 cycle-chained = tt
 
-pub cycle-length : length cycle ≡ 255
+pub cycle-length : length cycle ≡ 510
 unfolding cycle
 cycle-length = refl
 
@@ -45,11 +45,20 @@ one-is : 1 ≡ power 2 0
 unfolding power
 one-is = refl
 
-pub cycle-at : (k : ℕ) → k < 255 → get_or cycle k 0 ≡ power 2 k
+pub cycle-at : (k : ℕ) → k < 510 → get_or cycle k 0 ≡ power 2 k
 cycle-at k h = chained-at 1 cycle 0 one-is cycle-chained k (rw cycle-length h) ∙ ap (power 2) (omega arith)
 
+-- the first round ends with 1 too
+round-chained : T (chained 1 (take 255 cycle))
+unfolding cycle chained product product_by
+round-chained = tt
+
+round-length : length (take 255 cycle) ≡ 255
+unfolding cycle
+round-length = refl
+
 pub order : power 2 255 ≡ 1
-order = ap (power 2) (sym cycle-length ∙ omega arith) ∙ chained-end 1 cycle 0 one-is cycle-chained
+order = ap (power 2) (sym round-length ∙ omega arith) ∙ chained-end 1 (take 255 cycle) 0 one-is round-chained
 
 -- the exponent of a power is the exponent
 returns : ℕ → Bool
@@ -61,7 +70,7 @@ returns-all = tt
 
 pub log-of-power : (k : ℕ) → k < 255 → get_or logs (power 2 k) 0 ≡ k
 unfolding returns
-log-of-power k h = ap (λ (x : ℕ). get_or logs x 0) (sym (cycle-at k h)) ∙ eqb→eq _ _ (at-below 255 returns returns-all k h)
+log-of-power k h = ap (λ (x : ℕ). get_or logs x 0) (sym (cycle-at k (omega arith))) ∙ eqb→eq _ _ (at-below 255 returns returns-all k h)
 
 -- every byte that is not zero is a power
 reached : ℕ → Bool
@@ -90,4 +99,4 @@ unfolding reached
 log_is a h n =
     let t : T (ltb (get_or logs a 0) 255 && eqb (get_or cycle (get_or logs a 0) 0) a) = pick-right a (ltb (get_or logs a 0) 255 && eqb (get_or cycle (get_or logs a 0) 0) a) n (at-below 256 reached reached-all a h) in
     let l : get_or logs a 0 < 255 = ltb→lt _ _ (both_left (ltb (get_or logs a 0) 255) (eqb (get_or cycle (get_or logs a 0) 0) a) t) in
-    record { below = l; is = sym (cycle-at (get_or logs a 0) l) ∙ eqb→eq _ _ (both_right (ltb (get_or logs a 0) 255) (eqb (get_or cycle (get_or logs a 0) 0) a) t) }
+    record { below = l; is = sym (cycle-at (get_or logs a 0) (omega arith)) ∙ eqb→eq _ _ (both_right (ltb (get_or logs a 0) 255) (eqb (get_or cycle (get_or logs a 0) 0) a) t) }

@@ -3,7 +3,7 @@ ghost use Rattle.std.specs.Prelude.{◌≡◌, ◌<◌, slice_index};
 ghost use Rattle.gf256.specs.Field.{inverse, ◌⊕◌, ◌⊙◌};
 ghost use Rattle.rs_theory.specs.Code.{locators};
 
-use gf256::{mul, power_of_two};
+use gf256::{mul, mul_by_bits, power_of_two};
 
 // a + b * c
 #[tactic(auto, using(crate::proofs::Products::add_product))]
@@ -11,6 +11,14 @@ pub fn multiply_add(a: u8, b: u8, c: u8) -> u8
     ensures { result ≡ a ⊕ (b ⊙ c) }
 {
     a ^ mul(b, c)
+}
+
+// The same without tables, for loops over many bytes.
+#[tactic(auto, using(crate::proofs::Products::add_product))]
+pub fn multiply_add_by_bits(a: u8, b: u8, c: u8) -> u8
+    ensures { result ≡ a ⊕ (b ⊙ c) }
+{
+    a ^ mul_by_bits(b, c)
 }
 
 // a * (b + c)

@@ -5,7 +5,7 @@ ghost use Rattle.rs_theory.specs.Code.{locators};
 ghost use Rattle.rs_decoding.specs.Decoding.{values_of};
 ghost use Rattle.gf256.specs.Field.{◌⊕◌, ◌⊙◌};
 
-use crate::arithmetic::{locator, multiply_add};
+use crate::arithmetic::{locator, multiply_add_by_bits};
 use std::array;
 
 // Of degree 16 at most: its coefficients, the lowest first, with zeros above the degree.
@@ -26,7 +26,7 @@ pub fn take_in<const N: usize>(values: &mut [u8; N], points: &[u8; N], a: u8)
 {
     // by place: of a slice written through `zip` a proof knows the length alone
     for (p, value) in values.iter_mut().enumerate() {
-        *value = multiply_add(a, points[p], *value);
+        *value = multiply_add_by_bits(a, points[p], *value);
     }
 }
 

@@ -3,4 +3,4 @@ use Rattle.gf256.proofs.Rules.{inverse_by_log}
 use Rattle.gf256.proofs.inverse.Goals as goal
 
 pub returns : goal.returns
-returns c = inverse_by_log c.args.a c.in_ok-k.k c.power_of_two.result c.ranges.a.fits c.in_ok-k.ensures c.power_of_two.ensures
+returns c = inverse_by_log c.args.a c.in_ok-k.k c.near_power.result c.ranges.a.fits c.in_ok-k.ensures c.near_power.ensures
