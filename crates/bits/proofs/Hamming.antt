@@ -83,5 +83,13 @@ unfolding distance
 distance-append [] a b = refl
 distance-append (x ∷ m) a b = omega (arith, differ_same x x refl, distance-append m a b)
 
+-- the distance of two lists put together of two fronts of one length is that of their parts
+pub distance-parts : (xs ys us vs : List ℕ) → length xs ≡ length us → distance (xs ++ ys) (us ++ vs) ≡ distance xs us + distance ys vs
+unfolding distance
+distance-parts [] ys [] vs e = omega arith
+distance-parts [] ys (u ∷ us) vs e = absurd (omega arith)
+distance-parts (x ∷ xs) ys [] vs e = absurd (omega arith)
+distance-parts (x ∷ xs) ys (u ∷ us) vs e = omega (arith, distance-parts xs ys us vs (omega arith))
+
 pub metric : Metric
 metric = record { none = distance_self; same = distance-zero; symmetric = distance-sym; triangle = distance-triangle }

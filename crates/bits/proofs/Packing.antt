@@ -28,6 +28,11 @@ unfolding all_bits
 are_bits-all_bits [] = under-nil 2
 are_bits-all_bits (b ∷ bs) = under-append 2 (bits_of b) (all_bits bs) (bits_below b) (are_bits-all_bits bs)
 
+pub are_bytes-all_bytes : (n : ℕ) (xs : List ℕ) → T (are_bytes (all_bytes n xs))
+unfolding all_bytes
+are_bytes-all_bytes zero xs = under-nil 256
+are_bytes-all_bytes (suc n) xs = under-cons 256 (byte_of (take 8 xs)) (all_bytes n (drop 8 xs)) (omega arith) (are_bytes-all_bytes n (drop 8 xs))
+
 -- a byte's bits make the byte: a test that antt computes, at each byte
 comes_back : ℕ → Bool
 comes_back b = eqb (byte_of (bits_of b)) b
