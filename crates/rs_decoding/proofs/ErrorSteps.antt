@@ -1,6 +1,6 @@
 -- One turn of the loops that find the roots, free the syndromes and take the errors off. Assumes nothing.
 use Rattle.std.proofs.Common.{◌≡◌, ℕ, zero, suc, ◌+◌, ◌-◌, ◌<◌, ◌≤◌, cond, eqb, List, [], ◌∷◌, ◌++◌, length, get_or, take, drop, set, sym, refl, ap, ◌∙◌, ap₂, append_assoc, le_of_suc-le-suc, not-suc-le-zero, arith, length-append, length-drop}
-use Rattle.std.proofs.lemmas.List.{drop_more, drop_all, take_more, take_more_set, take-append-drop, drop-set-lt, append-nil, ext_get_or}
+use Rattle.std.proofs.lemmas.List.{drop_more, drop_all, take_more, take_more_set, take-append-drop, drop-set-lt, append-nil, ext_get_or, drop-drop, get_or-drop}
 use Rattle.std.proofs.lemmas.Bool.{eq-eqb, ne_eqb}
 use Rattle.gf256.proofs.Ring.{◌⊕◌, ◌⊙◌}
 use Rattle.rs_decoding.specs.Decoding.{evaluate, values_of, roots_of, peel, peel_others, others, value_at, corrected}
@@ -65,6 +65,19 @@ peel-at n y j t h =
     let d : drop (j + 1) t ≡ get_or t (j + 1) 0 ∷ drop (j + 1 + 1) t = drop_more t (j + 1) 0 h in
     ap (peel (suc n) y) (drop_more t j 0 g ∙ ap (λ (a : List ℕ). get_or t j 0 ∷ a) d)
     ∙ ap (λ (a : List ℕ). (get_or t (j + 1) 0 ⊕ (y ⊙ get_or t j 0)) ∷ peel n y a) (sym d)
+
+-- lists that are the same from a place on
+pub drop_on : (j : ℕ) (t s : List ℕ) → drop j t ≡ drop j s → drop (j + 1) t ≡ drop (j + 1) s
+drop_on j t s d = sym (drop-drop 1 j t) ∙ ap (λ (xs : List ℕ). drop 1 xs) d ∙ drop-drop 1 j s
+
+read-on : (j i : ℕ) (t s : List ℕ) → drop j t ≡ drop j s → get_or s (j + i) 0 ≡ get_or t (j + i) 0
+read-on j i t s d = sym (get_or-drop j s i 0) ∙ ap (λ (xs : List ℕ). get_or xs i 0) (sym d) ∙ get_or-drop j t i 0
+
+pub read-behind : (j y v : ℕ) (t s : List ℕ) → drop j t ≡ drop j s → v ≡ get_or s (j + 1) 0 ⊕ (y ⊙ get_or s j 0) → v ≡ get_or t (j + 1) 0 ⊕ (y ⊙ get_or t j 0)
+read-behind j y v t s d e =
+    let z : j + 0 ≡ j = omega arith in
+    let here : get_or s j 0 ≡ get_or t j 0 = ap (λ (k : ℕ). get_or s k 0) (sym z) ∙ read-on j 0 t s d ∙ ap (λ (k : ℕ). get_or t k 0) z in
+    e ∙ ap₂ (λ (a b : ℕ). a ⊕ (y ⊙ b)) (read-on j 1 t s d) here
 
 pub peel-step : (count j y v : ℕ) (t whole : List ℕ) → j < count → count < length t → v ≡ get_or t (j + 1) 0 ⊕ (y ⊙ get_or t j 0) →
     take j t ++ peel (count - j) y (drop j t) ≡ whole → take (j + 1) (set t j v) ++ peel (count - (j + 1)) y (drop (j + 1) (set t j v)) ≡ whole

@@ -24,9 +24,10 @@ fn peel_off(t: &mut [u8; 32], count: usize, y: u8)
     requires { count < 32 }
     ensures { t.new ≡ peel count y t.old }
 {
-    // no chain: each place takes in its neighbour in the same array, which is not changed yet
+    // no chain: each place takes in its neighbour, out of a copy: where y is zero, a move in place would be made of the loop
+    let before = *t;
     for j in 0..count {
-        t[j] = multiply_add(t[j + 1], y, t[j]);
+        t[j] = multiply_add(before[j + 1], y, before[j]);
     }
 }
 
