@@ -1,10 +1,10 @@
 // Lines of the outer code: `encode MESSAGE WORD` and `repair WORD ANSWER REPAIRED`, where the answer is the number of bytes changed, or none.
-use hex::FromHex;
+use super::digits::bytes;
 use reed_solomon::{Word, encode};
 
 pub fn encodes(message: &str, word: &str) -> anyhow::Result<bool> {
-    let message = <[u8; 223]>::from_hex(message)?;
-    let word = <[u8; 255]>::from_hex(word)?;
+    let message = bytes::<223>(message)?;
+    let word = bytes::<255>(word)?;
     Ok(encode(&message).bytes == word)
 }
 
@@ -16,10 +16,10 @@ fn count(answer: &str) -> anyhow::Result<Option<usize>> {
 }
 
 pub fn repairs(word: &str, answer: &str, repaired: &str) -> anyhow::Result<bool> {
-    let bytes = <[u8; 255]>::from_hex(word)?;
+    let heard = bytes::<255>(word)?;
     let expected = count(answer)?;
-    let repaired = <[u8; 255]>::from_hex(repaired)?;
-    let mut word = Word { bytes };
+    let repaired = bytes::<255>(repaired)?;
+    let mut word = Word { bytes: heard };
     let changed = word.repair();
     Ok(changed == expected && word.bytes == repaired)
 }
