@@ -75,7 +75,7 @@ impl<'a> Pair<'a> {
         came
     }
 
-    // Rounds until the ship is done, at most 99.
+    // Rounds until the ship is done, at most 99; a session that does not end counts 100.
     pub fn play(&mut self, out: &mut [u8; LONGEST]) -> Played {
         let mut played = Played::default();
         for n in 1..100u64 {
@@ -88,6 +88,7 @@ impl<'a> Pair<'a> {
                 break;
             }
         }
+        played.done = played.done.or(Some(100));
         played
     }
 
