@@ -47,10 +47,5 @@ fn main(rt: HostRuntime) -> anyhow::Result<()> {
     let station = Ground::open(0, &mut memory)?;
     let mut evening = Evening::new(dice, ship, station, &mut out);
     play_all(&mut evening, &pool);
-    let totals = format!(in rt.alloc(); "{}", evening.tally)?;
-    // each line by a write of its own, so that an output that fails has whole lines
-    for line in totals.lines() {
-        println!(rt; "{line}")?;
-    }
-    Ok(())
+    evening.tally.show(&rt)
 }

@@ -37,18 +37,18 @@ pub struct Tally {
     pub not_over: Count,
 }
 
-impl fmt::Display for Tally {
-    fn fmt<W: fmt::Write>(&self, f: &mut fmt::Formatter<W>) -> fmt::Result {
-        writeln!(f, "evenings {}, events {}", self.evenings, self.events)?;
-        writeln!(
-            f,
+impl Tally {
+    // Each line by a write of its own, so that an output that fails has whole lines.
+    pub fn show(&self, rt: &HostRuntime) -> anyhow::Result<()> {
+        println!(rt; "evenings {}, events {}", self.evenings, self.events)?;
+        println!(rt;
             "payloads said {}, answers {}, payloads heard {}",
             self.said, self.answered, self.heard
         )?;
-        write!(
-            f,
+        println!(rt;
             "violations: said {}, answers {}, done {}, handed over {}, not over in time {}",
             self.wrong_said, self.wrong_answers, self.wrong_done, self.wrong_handed, self.not_over
-        )
+        )?;
+        Ok(())
     }
 }
