@@ -3,7 +3,7 @@ ghost use Rattle.std.specs.Prelude.{◌≡◌, ◌<◌, ◌≤◌, true, ◌⊎�
 ghost use Rattle.bits.specs.Refusals.{number as code};
 ghost use Rattle.transfer_theory.specs.Receiver.{complete, handed_count, handed_into};
 ghost use Rattle.transfer.specs.Memory.{filled};
-ghost use Rattle.transfer.specs.Shapes.{Shaped};
+ghost use Rattle.transfer.specs.Shapes.{InRoom, Shaped};
 ghost use Rattle.transfer.specs.Stations.{count_of};
 ghost use Rattle.rehearsal.specs.Rehearsed.{Rehearsed, GoesOn, report_of};
 
@@ -13,7 +13,7 @@ use driver::{Outcome, play_on};
 use link::{TheGround, TheLink};
 use std::marker::Model;
 use transfer::ship::LONGEST;
-use transfer::sides::Station;
+use transfer::sides::{Ship, Station};
 
 #[derive(Drop)]
 pub struct Rehearsal<'a> {
@@ -100,10 +100,13 @@ impl<'a> Rehearsal<'a> {
         self.station.hand_over(out)
     }
 
-    // What there is to report.
+    // What there is to report. The clause room says what any ship keeps.
     pub fn report(&self) -> Report
-        ensures { result ≡ report_of self.now }
+        ensures value { result ≡ report_of self.now }
+        ensures room { InRoom self.now.sender }
     {
+        // asked for its clause room alone: the answer is the outcome's own
+        let _told = self.link.done();
         Report {
             outcome: self.outcome,
             counts: self.line.counts,
