@@ -5,23 +5,23 @@ use lib.Bits.{bit_xor, xor_assoc, xor_zero_r}
 use Rattle.gf256.specs.Field.{twice, product, product_by, power, inverse}
 use Rattle.gf256.specs.Laws.{IsInverse, IsLog}
 use Rattle.gf256.specs.declared.tables.TheConstants.{EXP, LOG}
-use Rattle.gf256.proofs.Table.{cycle, cycle-at, logs, Log, log_is}
+use Rattle.gf256.proofs.Table.{rounds, rounds-at, logs, Log, log_is}
 use Rattle.gf256.proofs.Ring.{◌⊙◌, pow, product_is, ⊙-comm, ⊙-assoc, ⊙-zero-l, ⊙-zero-r, ⊙-one, power-is, power-add, pow-mul, pow-one, pow2-below, pow2-nonzero, pow2-order}
 use Rattle.gf256.proofs.Bytes.{power_below, product-inverse}
 
 pub power_read : (k : ℕ) → get_or EXP (k % 255) 0 ≡ power 2 k
-unfolding cycle
+unfolding rounds
 power_read k =
     let round : power 2 (255 * (k / 255)) ≡ 1 =
     power-is 2 (255 * (k / 255)) (omega arith) ∙ sym (pow-mul 2 255 (k / 255)) ∙
     ap (λ (x : ℕ). pow x (k / 255)) (sym (power-is 2 255 (omega arith)) ∙ pow2-order) ∙ pow-one (k / 255) in
-    cycle-at (k % 255) (omega arith) ∙ sym (⊙-one (power 2 (k % 255)) (pow2-below (k % 255))) ∙
+    rounds-at (k % 255) (omega arith) ∙ sym (⊙-one (power 2 (k % 255)) (pow2-below (k % 255))) ∙
     ap (λ (x : ℕ). x ⊙ power 2 (k % 255)) (sym round) ∙ sym (power-add 2 (255 * (k / 255)) (k % 255) (omega arith)) ∙ ap (power 2) (omega arith)
 
 -- two rounds are in the table
 pub near_power_read : (k : ℕ) → k < 510 → get_or EXP k 0 ≡ power 2 k
-unfolding cycle
-near_power_read k h = cycle-at k h
+unfolding rounds
+near_power_read k h = rounds-at k h
 
 log-zero : get_or LOG 0 0 ≡ 0
 log-zero = refl

@@ -5,8 +5,12 @@ use Rattle.gf256.specs.declared.tables.TheConstants.{EXP, LOG}
 use Rattle.gf256.proofs.Basis.{all_below, at-below, both_left, both_right}
 
 -- 2^0 .. 2^509: two rounds
+unfoldable pub rounds : List ℕ
+rounds = EXP
+
+-- 2^0 .. 2^254: one of them
 unfoldable pub cycle : List ℕ
-cycle = EXP
+cycle = take 255 EXP
 
 -- the exponent of each byte that is not zero
 unfoldable pub logs : List ℕ
@@ -37,7 +41,7 @@ cycle-chained : T (chained 1 cycle)
 unfolding cycle chained product product_by
 cycle-chained = tt
 
-pub cycle-length : length cycle ≡ 510
+pub cycle-length : length cycle ≡ 255
 unfolding cycle
 cycle-length = refl
 
@@ -45,20 +49,22 @@ one-is : 1 ≡ power 2 0
 unfolding power
 one-is = refl
 
-pub cycle-at : (k : ℕ) → k < 510 → get_or cycle k 0 ≡ power 2 k
+pub cycle-at : (k : ℕ) → k < 255 → get_or cycle k 0 ≡ power 2 k
 cycle-at k h = chained-at 1 cycle 0 one-is cycle-chained k (rw cycle-length h) ∙ ap (power 2) (omega arith)
 
--- the first round ends with 1 too
-round-chained : T (chained 1 (take 255 cycle))
-unfolding cycle chained product product_by
-round-chained = tt
-
-round-length : length (take 255 cycle) ≡ 255
-unfolding cycle
-round-length = refl
-
 pub order : power 2 255 ≡ 1
-order = ap (power 2) (sym round-length ∙ omega arith) ∙ chained-end 1 (take 255 cycle) 0 one-is round-chained
+order = ap (power 2) (sym cycle-length ∙ omega arith) ∙ chained-end 1 cycle 0 one-is cycle-chained
+
+rounds-chained : T (chained 1 rounds)
+unfolding rounds chained product product_by
+rounds-chained = tt
+
+pub rounds-length : length rounds ≡ 510
+unfolding rounds
+rounds-length = refl
+
+pub rounds-at : (k : ℕ) → k < 510 → get_or rounds k 0 ≡ power 2 k
+rounds-at k h = chained-at 1 rounds 0 one-is rounds-chained k (rw rounds-length h) ∙ ap (power 2) (omega arith)
 
 -- the exponent of a power is the exponent
 returns : ℕ → Bool
@@ -70,7 +76,7 @@ returns-all = tt
 
 pub log-of-power : (k : ℕ) → k < 255 → get_or logs (power 2 k) 0 ≡ k
 unfolding returns
-log-of-power k h = ap (λ (x : ℕ). get_or logs x 0) (sym (cycle-at k (omega arith))) ∙ eqb→eq _ _ (at-below 255 returns returns-all k h)
+log-of-power k h = ap (λ (x : ℕ). get_or logs x 0) (sym (cycle-at k h)) ∙ eqb→eq _ _ (at-below 255 returns returns-all k h)
 
 -- every byte that is not zero is a power
 reached : ℕ → Bool
@@ -99,4 +105,4 @@ unfolding reached
 log_is a h n =
     let t : T (ltb (get_or logs a 0) 255 && eqb (get_or cycle (get_or logs a 0) 0) a) = pick-right a (ltb (get_or logs a 0) 255 && eqb (get_or cycle (get_or logs a 0) 0) a) n (at-below 256 reached reached-all a h) in
     let l : get_or logs a 0 < 255 = ltb→lt _ _ (both_left (ltb (get_or logs a 0) 255) (eqb (get_or cycle (get_or logs a 0) 0) a) t) in
-    record { below = l; is = sym (cycle-at (get_or logs a 0) (omega arith)) ∙ eqb→eq _ _ (both_right (ltb (get_or logs a 0) 255) (eqb (get_or cycle (get_or logs a 0) 0) a) t) }
+    record { below = l; is = sym (cycle-at (get_or logs a 0) l) ∙ eqb→eq _ _ (both_right (ltb (get_or logs a 0) 255) (eqb (get_or cycle (get_or logs a 0) 0) a) t) }

@@ -1,10 +1,11 @@
 -- The bytes in front of the first newline, and what is kept of a line. Assumes nothing.
 use Rattle.std.proofs.Common.{◌≡◌, ℕ, zero, suc, ◌+◌, ◌-◌, ◌≤◌, min, Bool, true, false, cond, eqb, ltb, Some, None, Option, List, [], ◌∷◌, ◌++◌, length, take, sym, refl, ap, ◌∙◌, ⊎_elim, arith}
 use Rattle.std.specs.List.{position, position_or_len}
-use Rattle.std.proofs.lemmas.List.{take_all}
+use Rattle.std.proofs.lemmas.List.{take_all, length-map}
 use Rattle.std.proofs.lemmas.List.Recursion.{is_position_or_len}
 use Rattle.std.proofs.lemmas.Bool.{cases_lt, ltb-false}
 use Rattle.std.proofs.lemmas.Grind.{common_steps}
+use Rattle.text.specs.Lines.{digit_of, digits}
 use Rattle.text.specs.Input.{before, ends, used, kept}
 
 length-before : (xs : List ℕ) → length (before xs) ≡ position_or_len (λ x. eqb x 10) xs
@@ -69,3 +70,7 @@ newline_unfound xs e = of (ends xs) refl (ap (λ (n : ℕ). cond (ltb n (length 
     of : (b : Bool) → ends xs ≡ b → cond b (Some (length (before xs))) None ≡ None → (xs ≡ before xs) × (None ≡ taken xs)
     of true k h = let z : ⊥ = cc in absurd z
     of false k h = (sym (take_all (length (before xs)) xs (ltb-false (length (before xs)) (length xs) k)) ∙ take-before xs, rw k refl)
+
+-- there is room for all digits of a frame
+pub kept_digits : (bits : List ℕ) → length bits ≡ 4092 → kept ([] ++ digits bits) ≡ digits bits
+kept_digits bits e = take_all 4093 (digits bits) (omega (arith, length-map bits digit_of))
